@@ -1,0 +1,1 @@
+//! Stands for the forward dynamics, which are not given.

@@ -1,0 +1,1 @@
+//! Stands for the mass matrix, which is not given.
