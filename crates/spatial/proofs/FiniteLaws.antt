@@ -1,15 +1,15 @@
 -- Laws of the finite test: x - x decides it, a list's numbers may be taken one by one or part by part, and +0 is bits 0.
-use Prim.Native.Nat.{ℕ, zero, suc, _+_, _*_, _-_, _^_, _/_, _<_}
+use Prim.Native.Nat.{ℕ, zero, suc, _+_, _*_, _-_, _^_, _/_, _<_, _≤_}
 use mathlib.Core.Path.{_≡_, refl, _∙_, sym, ap, subst}
 use mathlib.Core.Bool.{Bool, true, false, not, _&&_}
 use mathlib.Core.List.{List, [], _∷_, _++_}
 use native.Mathlib.Omega.{arith}
 use native.Mathlib.Decide.{ℕ-discrete}
-use native.Mathlib.Nat.{sub-self, zero-mul, zero-div, mul-pos, le-refl}
+use native.Mathlib.Nat.{sub-self, zero-mul, zero-div, suc-mul, mul-pos, le-refl}
 use lib.IntN.{ℤ, pos, negsuc}
 use lib.Dec.{T, eqb}
-use lib.ListN.{length, take, getD}
-use lib.Seq.{take-suc}
+use lib.ListN.{length, take, drop, getD}
+use lib.Seq.{take-suc, take-add, drop-cons}
 use native.Mathlib.Numerals.{add-one}
 use lib.Ieee.{Float, nan, inf, fin, binary64, add, sub, sum, neg, eq, ne, isNan, fits, ofBits, toBits, round, size, up, down}
 use lib.Ieee.Bits.{ofBits-toBits}
@@ -17,6 +17,8 @@ use lib.Ieee.Compare.{differs-from-itself}
 use lib.Ieee.Fits.{down-pos}
 use lib.Ieee.Scale.{round-same}
 use borrow.Author.Tests.{le-ltb, eq-eqb, ne-eqb}
+use Rattle.spatial.specs.All.{all}
+use Rattle.spatial.proofs.AllLaws.{and-assoc, and-true}
 use Rattle.spatial.specs.Finite.{isFinite, allFinite, isPlusZero}
 
 -- ---- one double
@@ -40,14 +42,6 @@ sub-finite (fin s m e) = rw (sum-zero s (m * up e * down e) (down e * down e) (m
 
 -- ---- the numbers of a list
 
-and-assoc : (a b c : Bool) → ((a && b) && c) ≡ (a && (b && c))
-and-assoc true b c = refl
-and-assoc false b c = refl
-
-and-true : (a : Bool) → (a && true) ≡ a
-and-true true = refl
-and-true false = refl
-
 pub all-append : (xs ys : List Float) → allFinite (xs ++ ys) ≡ (allFinite xs && allFinite ys)
 unfolding allFinite
 all-append [] ys = refl
@@ -60,7 +54,15 @@ all-next xs i h =
     rw (add-one, take-suc xs i nan h)
     (all-append (take i xs) (getD xs i nan ∷ []) ∙ ap (λ (b : Bool). allFinite (take i xs) && b) (and-true (isFinite (getD xs i nan))))
 
--- three numbers and four, as code takes them together
+-- one number, and two to four as code takes them together
+pub all-one : (x : Float) → allFinite (x ∷ []) ≡ isFinite x
+unfolding allFinite
+all-one x = and-true (isFinite x)
+
+pub all-two : (x y : Float) → (isFinite x && isFinite y) ≡ allFinite (x ∷ y ∷ [])
+unfolding allFinite
+all-two x y = ap (λ (b : Bool). isFinite x && b) (sym (and-true (isFinite y)))
+
 pub all-three : (x y z : Float) → ((isFinite x && isFinite y) && isFinite z) ≡ allFinite (x ∷ y ∷ z ∷ [])
 unfolding allFinite
 all-three x y z = and-assoc (isFinite x) (isFinite y) (isFinite z) ∙ ap (λ (b : Bool). isFinite x && (isFinite y && b)) (sym (and-true (isFinite z)))
@@ -75,6 +77,28 @@ all-four w x y z =
 -- three lists, as code takes them together
 pub all-parts : (xs ys zs : List Float) → ((allFinite xs && allFinite ys) && allFinite zs) ≡ allFinite (xs ++ (ys ++ zs))
 all-parts xs ys zs = and-assoc (allFinite xs) (allFinite ys) (allFinite zs) ∙ sym (all-append xs (ys ++ zs) ∙ ap (λ (b : Bool). allFinite xs && b) (all-append ys zs))
+
+-- blocks of k numbers each, of which the l-th is f l
+pub all-blocks : (xs : List Float) (k n : ℕ) (f : ℕ → List Float) → ((l : ℕ) → l < n → take k (drop (l * k) xs) ≡ f l) → allFinite (take (n * k) xs) ≡ all n (λ l. allFinite (f l))
+unfolding all allFinite
+all-blocks xs k zero f h = rw zero-mul
+all-blocks xs k (suc n) f h =
+    rw (suc-mul, take-add (n * k) k xs)
+    (all-append (take (n * k) xs) (take k (drop (n * k) xs))
+    ∙ ap (λ (b : Bool). b && allFinite (take k (drop (n * k) xs))) (all-blocks xs k n f (λ l m. h l (omega arith)))
+    ∙ ap (λ (ys : List Float). all n (λ l. allFinite (f l)) && allFinite ys) (h n (omega arith)))
+
+-- the k numbers from place i + o on
+unfoldable pub cells : List Float → ℕ → ℕ → ℕ → List Float
+cells xs i o zero = []
+cells xs i o (suc k) = getD xs (i + o) nan ∷ cells xs i (o + 1) k
+
+pub take-cells : (xs : List Float) (i o k : ℕ) → i + o + k ≤ length xs → take k (drop (i + o) xs) ≡ cells xs i o k
+unfolding cells
+take-cells xs i o zero h = refl
+take-cells xs i o (suc k) h =
+    rw (drop-cons xs (i + o) nan (omega arith))
+    (ap (λ (ys : List Float). getD xs (i + o) nan ∷ ys) (let e : suc (i + o) ≡ i + (o + 1) = omega arith in rw e (take-cells xs i (o + 1) k (omega arith))))
 
 -- ---- +0
 

@@ -1,2 +1,3 @@
+pub mod AllLaws
 pub mod FiniteLaws
 pub mod Worked

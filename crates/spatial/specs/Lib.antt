@@ -1,3 +1,4 @@
+pub mod All
 pub mod Float
 pub mod Constants
 pub mod Vectors

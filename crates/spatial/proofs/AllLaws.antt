@@ -1,0 +1,69 @@
+-- Laws of `&&` and of `all`: a test at every number below n says just what it says at each.
+use Prim.Native.Nat.{ℕ, zero, suc, _+_, _<_, _≤_}
+use mathlib.Core.Path.{_≡_, refl, sym, ap, _∙_}
+use mathlib.Core.Bool.{Bool, true, false, _&&_}
+use mathlib.Core.Logic.{_⊎_, ⊎-elim}
+use native.Mathlib.Omega.{arith}
+use native.Mathlib.Nat.{eq-or-lt-of-le}
+use native.Mathlib.Numerals.{add-one}
+use Rattle.spatial.specs.All.{all}
+
+pub and-left : (a b : Bool) → (a && b) ≡ true → a ≡ true
+and-left true b h = refl
+and-left false b h = h
+
+pub and-right : (a b : Bool) → (a && b) ≡ true → b ≡ true
+and-right true b h = h
+and-right false b h = let z : _≡_ {A = Bool} false true = h in cc
+
+pub and-both : (a b : Bool) → a ≡ true → b ≡ true → (a && b) ≡ true
+and-both a b h k = simp (h, k)
+
+pub and-assoc : (a b c : Bool) → ((a && b) && c) ≡ (a && (b && c))
+and-assoc true b c = refl
+and-assoc false b c = refl
+
+pub and-true : (a : Bool) → (a && true) ≡ a
+and-true true = refl
+and-true false = refl
+
+-- two pairs of tests, taken crosswise
+pub and-cross : (a b c d : Bool) → ((a && b) && (c && d)) ≡ ((a && c) && (b && d))
+and-cross true true c d = refl
+and-cross true false true d = refl
+and-cross true false false d = refl
+and-cross false b c d = refl
+
+-- a loop that tests one number after another: its start, a turn, its end
+pub all-start : (f : ℕ → Bool) → true ≡ all 0 f
+unfolding all
+all-start f = refl
+
+pub all-turn : (f : ℕ → Bool) (n : ℕ) (good now : Bool) → good ≡ all n f → now ≡ f n → (good && now) ≡ all (n + 1) f
+unfolding all
+all-turn f n good now e h = rw (add-one, e, h)
+
+pub all-end : (f : ℕ → Bool) (k n : ℕ) (good : Bool) → good ≡ all k f → k ≤ n → n ≤ k → good ≡ all n f
+all-end f k n good e p q = e ∙ ap (λ (i : ℕ). all i f) (let r : k ≡ n = omega arith in r)
+
+pub all-at : (n k : ℕ) (f : ℕ → Bool) → all n f ≡ true → k < n → f k ≡ true
+unfolding all
+all-at zero k f h l = absurd (omega arith)
+all-at (suc n) k f h l =
+    let m : k ≤ n = omega arith in
+    ⊎-elim (λ e. ap f e ∙ and-right (all n f) (f n) h) (λ q. all-at n k f (and-left (all n f) (f n) h) q) (eq-or-lt-of-le m)
+
+pub all-if : (n : ℕ) (f : ℕ → Bool) → ((k : ℕ) → k < n → f k ≡ true) → all n f ≡ true
+unfolding all
+all-if zero f h = refl
+all-if (suc n) f h = and-both (all n f) (f n) (all-if n f (λ k l. h k (omega arith))) (h n (omega arith))
+
+pub all-same : (n : ℕ) (f g : ℕ → Bool) → ((k : ℕ) → k < n → f k ≡ g k) → all n f ≡ all n g
+unfolding all
+all-same zero f g h = refl
+all-same (suc n) f g h = rw (h n (omega arith), all-same n f g (λ k l. h k (omega arith)))
+
+pub all-both : (n : ℕ) (f g : ℕ → Bool) → all n (λ k. f k && g k) ≡ (all n f && all n g)
+unfolding all
+all-both zero f g = refl
+all-both (suc n) f g = ap (λ (b : Bool). b && (f n && g n)) (all-both n f g) ∙ and-cross (all n f) (all n g) (f n) (g n)
