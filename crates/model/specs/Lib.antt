@@ -1,0 +1,12 @@
+pub mod Answer
+pub mod Numbers
+pub mod View
+pub mod Links
+pub mod Joints
+pub mod Good
+pub mod Flat
+pub mod Bases
+pub mod Poses
+pub mod Lists
+pub mod Marks
+pub mod Build
