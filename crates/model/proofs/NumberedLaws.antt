@@ -9,7 +9,7 @@ use lib.Dec.{eqb, ltb}
 use borrow.Author.Tests.{lt-ltb, ltb-true, eq-eqb, eqb-true, not-true}
 use Rattle.spatial.specs.All.{all}
 use Rattle.spatial.proofs.AllLaws.{and-left, and-right, and-both, all-at, all-if}
-use Rattle.model.specs.Numbers.{Numbering, Holds, Numbered, noNumber, holds, taken, numberedAt, numbered}
+use Rattle.model.specs.Numbers.{Numbering, Holds, Numbered, noNumber, holds, taken, numberedAt, numbered, holderOf}
 use Rattle.model.proofs.NumberLaws.{by-bool, lt-or-ge}
 use Rattle.model.proofs.Pigeonhole.{pigeonhole}
 
@@ -42,10 +42,10 @@ holds-taken t (suc j) n i l h =
     (eq-or-lt-of-le m)
 
 module _ (t : Numbering) where
-  said : (n j : ℕ) → Holds t n j → holds t n j ≡ true
+  pub said : (n j : ℕ) → Holds t n j → holds t n j ≡ true
   said n j h = and-both (t .moves j) (eqb (t .number j) n) (h .moving) (eq-eqb (t .number j) n (h .number))
 
-  told : (n j : ℕ) → j < t .count → holds t n j ≡ true → Holds t n j
+  pub told : (n j : ℕ) → j < t .count → holds t n j ≡ true → Holds t n j
   told n j l h =
       record {
         inside = l;
@@ -118,3 +118,24 @@ module _ (t : Numbering) where
     few-numbers =
         pigeonhole (t .count) (t .moving) (λ n l. g .held n l .0) (λ n l. g .held n l .1 .inside)
         (λ a b p q e. sym (g .held a p .1 .number) ∙ ap (t .number) e ∙ g .held b q .1 .number)
+
+-- of those before j, the one that holds n is found
+holder-found : (t : Numbering) (n i : ℕ) → holds t n i ≡ true → ((k : ℕ) → k < t .count → holds t n k ≡ true → k ≡ i) → (j : ℕ) → i < j → j ≤ t .count → holderOf t j n ≡ i
+unfolding holderOf
+holder-found t n i h once zero l m = absurd (omega arith)
+holder-found t n i h once (suc j) l m =
+    ⊎-elim
+    (λ e. rw e (once j (omega arith) e))
+    (λ e. rw e (holder-found t n i h once j (let d : (i ≡ j → ⊥) = (λ q. false≢true (sym e ∙ ap (holds t n) (sym q) ∙ h)) in omega arith) (omega arith)))
+    (by-bool (holds t n j))
+
+-- the joint that holds n is its holder
+pub holder-is : (t : Numbering) → Numbered t → (n i : ℕ) → Holds t n i → holderOf t (t .count) n ≡ i
+holder-is t g n i h =
+    holder-found t n i (said t n i h) (λ k l q. g .once n k i (told t n k l q) h) (t .count) (h .inside) (omega arith)
+
+-- and the holder of a number below m holds it
+pub holder-holds : (t : Numbering) → Numbered t → (n : ℕ) → n < t .moving → Holds t n (holderOf t (t .count) n)
+holder-holds t g n l =
+    let r = g .held n l in
+    rw (holder-is t g n (r .0) (r .1)) (r .1)

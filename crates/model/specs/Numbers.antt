@@ -47,3 +47,10 @@ numberedAt t j = numberFits (t .moves j) (t .number j) (t .moving) (not (taken t
 
 unfoldable pub numbered : Numbering → Bool
 numbered t = all (t .count) (numberedAt t) && all (t .moving) (taken t (t .count))
+
+-- ---- who holds a number
+
+-- the last of the joints before j that holds n, and 0 where none does
+unfoldable pub holderOf : Numbering → ℕ → ℕ → ℕ
+holderOf t zero n = 0
+holderOf t (suc j) n = cond (holds t n j) j (holderOf t j n)

@@ -1,6 +1,7 @@
 pub mod All
 pub mod Float
 pub mod Constants
+pub mod Past
 pub mod Vectors
 pub mod Rotations
 pub mod Wrenches

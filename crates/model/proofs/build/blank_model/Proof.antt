@@ -1,13 +1,9 @@
-use borrow.Author.Needs.{needs}
 use mathlib.Core.Path.{refl}
 use lib.Ieee.{ofBits}
 use Rattle.model.specs.Build.{blankModel}
 use Rattle.model.proofs.build.blank_model.Statement.{statement}
 use Rattle.model.proofs.build.blank_model.Tie as tie
-use Rattle.model.proofs.build.blank_model.Reads as reads
-use Rattle.model.proofs.build.blank_model.Lts as lts
 
--- src/build.rt:61:1
 returns : tie.Need-returns
 unfolding blankModel ofBits
 returns c = refl
