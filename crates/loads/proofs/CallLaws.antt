@@ -1,0 +1,49 @@
+-- What the calls' code reads and writes place by place.
+use mathlib.Core.Path.{_≡_, refl, sym, ap, _∙_}
+use mathlib.Core.Bool.{true, cond}
+use mathlib.Core.Logic.{⊎-elim}
+use mathlib.Core.List.{List, [], _∷_, _++_, map, map-append}
+use Prim.Native.Nat.{ℕ, suc, _+_, _<_}
+use native.Mathlib.Omega.{arith}
+use native.Mathlib.Numerals.{add-one}
+use lib.ListN.{length, getD, set, take, drop, length-map}
+use lib.Seq.{length-take-le, take-suc, drop-cons, append-snoc, set-at}
+use lib.Dec.{ltb, eqb}
+use borrow.Author.Tests.{lt-ltb, eq-eqb}
+use Rattle.spatial.specs.declared.Wrench.{Wrench}
+use Rattle.spatial.specs.Wrenches.{wrenchSum}
+use Rattle.loads.specs.declared.Load.{Load}
+use Rattle.loads.specs.declared.Stored.{Stored}
+use Rattle.loads.specs.declared.LoadBuffer.{LoadBuffer}
+use Rattle.loads.specs.Agree.{MAX, noStored, at, mark, tablesAgree}
+use Rattle.loads.specs.Calls.{addedOf, loadOf, blankTable}
+use Rattle.loads.proofs.BoolLaws.{same-or-not}
+use Rattle.loads.proofs.Decided.{mark-small}
+
+-- an empty mark may be looked up at place 0
+pub added-within : (b : LoadBuffer) (l : ℕ) (w : Wrench) → tablesAgree b ≡ true → l < b .links → cond (eqb (mark b l) MAX) w (wrenchSum (at b (cond (ltb (mark b l) 64) (mark b l) 0) .wrench) w) ≡ addedOf b l w
+unfolding addedOf
+added-within b l w h k = ⊎-elim absent present (same-or-not (mark b l) MAX)
+  where
+    absent : mark b l ≡ MAX → cond (eqb (mark b l) MAX) w (wrenchSum (at b (cond (ltb (mark b l) 64) (mark b l) 0) .wrench) w) ≡ addedOf b l w
+    absent e = simp (eq-eqb (mark b l) MAX e)
+
+    present : (mark b l ≡ MAX → ⊥) → cond (eqb (mark b l) MAX) w (wrenchSum (at b (cond (ltb (mark b l) 64) (mark b l) 0) .wrench) w) ≡ addedOf b l w
+    present e = simp (lt-ltb (mark b l) 64 (mark-small b h l k e))
+
+-- a table with the first n of the loads copied into it
+module _ (id : ℕ) (ss : List Stored) (table : List Load) where
+  abbrev pub copied : ℕ → List Load
+  copied n = map (loadOf id) (take n ss) ++ drop n table
+
+  pub copied-more : (n : ℕ) → n < length ss → n < length table → set (copied n) n (loadOf id (getD ss n noStored)) ≡ copied (n + 1)
+  copied-more n h k =
+      rw (drop-cons table n (loadOf id noStored) k)
+      (set-at (map (loadOf id) (take n ss)) (getD table n (loadOf id noStored)) (drop (suc n) table) (loadOf id (getD ss n noStored)) n (length-map (take n ss) (loadOf id) ∙ length-take-le n ss (omega arith)))
+      ∙ sym (append-snoc (map (loadOf id) (take n ss)) (loadOf id (getD ss n noStored)) (drop (suc n) table))
+      ∙ sym (ap (λ (xs : List Load). xs ++ drop (suc n) table) (ap (map (loadOf id)) (take-suc ss n noStored h) ∙ map-append (loadOf id) (take n ss) (getD ss n noStored ∷ [])))
+      ∙ ap copied (sym (add-one n))
+
+pub blank-length : length blankTable ≡ 64
+unfolding blankTable
+blank-length = refl

@@ -1,0 +1,15 @@
+pub mod BoolLaws
+pub mod BelowLaws
+pub mod CheckLaws
+pub mod SumLaws
+pub mod AgreeLaws
+pub mod ZeroLaws
+pub mod Decided
+pub mod CallLaws
+pub mod MapPut
+pub mod MapRemove
+pub mod Determined
+pub mod Runs
+pub mod ZeroSum
+pub mod ListingSums
+pub mod Worked

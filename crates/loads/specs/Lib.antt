@@ -1,0 +1,6 @@
+pub mod Checks
+pub mod Sums
+pub mod Agree
+pub mod Calls
+pub mod Map
+pub mod Runs

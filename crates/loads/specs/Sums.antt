@@ -1,0 +1,74 @@
+-- 01: "Load sums start at +0 and go in list order, link by link"; "loads in turn, each 6, 5, 7".
+use Prim.Native.Nat.{ℕ, zero, suc, _+_, _*_}
+use mathlib.Core.List.{List, [], _∷_, _++_}
+use lib.Ieee.{Float, nan}
+use lib.ListN.{length, getD, set, replicate}
+use Rattle.spatial.specs.declared.Vector3.{Vector3}
+use Rattle.spatial.specs.declared.Wrench.{Wrench}
+use Rattle.spatial.specs.Constants.{zeroWrench}
+use Rattle.spatial.specs.Past.{noWrench}
+use Rattle.spatial.specs.Wrenches.{wrenchSum}
+use Rattle.loads.specs.declared.Load.{Load}
+use Rattle.loads.specs.declared.LoadSums.{LoadSums}
+use Rattle.loads.specs.Checks.{orElse, accepted, linkId, linkNumber, finiteness, inputNumber, sumNumber, amount, amountNumber, tableLength, lengthNumber}
+
+-- "starting at +0", all 64 places, nothing refused
+unfoldable pub startSums : LoadSums
+startSums = record { number = 0; sums = replicate 64 zeroWrench }
+
+-- the sum that a load makes at its link
+abbrev pub sumAt : LoadSums → Load → Wrench
+sumAt s l = wrenchSum (getD (s .sums) (l .link) noWrench) (l .wrench)
+
+-- "each 6, 5, 7", after an earlier load's refusal
+abbrev pub stepNumber : ℕ → ℕ → LoadSums → Load → ℕ
+stepNumber id links s l =
+    orElse (s .number)
+    (orElse (linkNumber (linkId id links (l .id) (l .link))) (orElse (inputNumber (finiteness (l .wrench))) (sumNumber (finiteness (sumAt s l)))))
+
+-- one load more; a refusal changes no sum
+unfoldable pub sumStep : ℕ → ℕ → LoadSums → Load → LoadSums
+sumStep id links s l =
+    record {
+      number = stepNumber id links s l;
+      sums = accepted (stepNumber id links s l) (set (s .sums) (l .link) (sumAt s l)) (s .sums);
+    }
+
+unfoldable pub sumFrom : ℕ → ℕ → LoadSums → List Load → LoadSums
+sumFrom id links s [] = s
+sumFrom id links s (l ∷ ls) = sumFrom id links (sumStep id links s l) ls
+
+-- the first refusal among the loads, and the sums of all links
+unfoldable pub loadSums : ℕ → ℕ → List Load → LoadSums
+loadSums id links ls = sumFrom id links startSums ls
+
+-- a refusal before any load is looked at
+abbrev pub before : ℕ → LoadSums → LoadSums
+before zero s = s
+before (suc n) s = record { number = suc n; sums = startSums .sums }
+
+-- "10; loads in turn"
+unfoldable pub preparedSums : ℕ → ℕ → List Load → LoadSums
+preparedSums id links ls = before (amountNumber (amount (length ls))) (loadSums id links ls)
+
+-- the wrench at place i of a table of six numbers each: torque, then force
+unfoldable pub wrenchAt : List Float → ℕ → Wrench
+wrenchAt ws i =
+    record {
+      torque = record { x = getD ws (6 * i) nan; y = getD ws (6 * i + 1) nan; z = getD ws (6 * i + 2) nan };
+      force = record { x = getD ws (6 * i + 3) nan; y = getD ws (6 * i + 4) nan; z = getD ws (6 * i + 5) nan };
+    }
+
+abbrev pub loadAt : List ℕ → List ℕ → List Float → ℕ → Load
+loadAt ids links ws i = record { id = getD ids i 0; link = getD links i 0; wrench = wrenchAt ws i }
+
+-- the loads that three tables mean, the first n
+unfoldable pub tableLoads : List ℕ → List ℕ → List Float → ℕ → List Load
+tableLoads ids links ws zero = []
+tableLoads ids links ws (suc n) = tableLoads ids links ws n ++ (loadAt ids links ws n ∷ [])
+
+-- the sums of a table in three parts: 3 before 10
+unfoldable pub flatSums : ℕ → ℕ → List ℕ → List ℕ → List Float → LoadSums
+flatSums id count ids links ws =
+    before (lengthNumber (tableLength (length ids) (length links) (length ws)))
+    (preparedSums id count (tableLoads ids links ws (length ids)))
