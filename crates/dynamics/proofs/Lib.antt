@@ -1,0 +1,5 @@
+pub mod SixLaws
+pub mod KernelLaws
+pub mod Worked
+pub mod RunLocal
+pub mod WorkedLocal

@@ -1,0 +1,104 @@
+// The frame of a joint at its pose.
+ghost use mathlib.Core.Path.{_≡_};
+ghost use mathlib.Core.Bool.{true};
+ghost use Prim.Native.Nat.{_+_, _*_, _<_};
+ghost use lib.ListN.{length};
+ghost use Rattle.model.specs.View.{moves};
+ghost use Rattle.dynamics.specs.Frames.{halfTurn, jointFrame, zeroFrame};
+ghost use Rattle.dynamics.specs.Flat.{poseIn};
+use model::Joint;
+use model::JointType;
+use model::Pose;
+use spatial::Frame;
+use spatial::Quaternion;
+use spatial::Vector3;
+use spatial::constants::zero_vector;
+use spatial::rotations::product;
+use spatial::rotations::rotate;
+use spatial::vectors::add;
+use spatial::vectors::scale;
+
+fn half_turn(s: f64, c: f64, axis: Vector3) -> Quaternion
+    ensures { λ r. ⌜ r ≡ halfTurn s c axis ⌝ }
+{
+    Quaternion {
+        w: c,
+        i: s * axis.x,
+        j: s * axis.y,
+        k: s * axis.z,
+    }
+}
+
+// A pose of another kind than the joint's leaves the origin.
+pub fn joint_frame(kind: JointType, origin: Frame, axis: Vector3, pose: Pose) -> Frame
+    ensures { λ r. ⌜ r ≡ jointFrame kind origin axis pose ⌝ }
+{
+    match kind {
+        JointType::Fixed => origin,
+        JointType::Revolute => match pose {
+            Pose::Half(s, c) => {
+                let translation = origin.translation;
+                Frame {
+                    rotation: product(origin.rotation, half_turn(s, c, axis)),
+                    translation,
+                }
+            }
+            Pose::Slide(_) => origin,
+        },
+        JointType::Prismatic => match pose {
+            Pose::Half(_, _) => origin,
+            Pose::Slide(x) => {
+                let rotation = origin.rotation;
+                Frame {
+                    rotation,
+                    translation: add(origin.translation, rotate(rotation, scale(axis, x))),
+                }
+            }
+        },
+    }
+}
+
+// A moving joint's pose in a list of two numbers a joint.
+fn pose_in(kind: JointType, number: usize, poses: &[f64]) -> Pose
+    requires { ⌜ (moves kind ≡ true → number * 2 + 1 < length (now poses)) ⌝ }
+    ensures { λ r. ⌜ r ≡ poseIn kind number (now (poses .entry)) ⌝ }
+{
+    match kind {
+        JointType::Fixed => Pose::Slide(0.0),
+        JointType::Revolute => {
+            let i = number * 2;
+            Pose::Half(poses[i], poses[i + 1])
+        }
+        JointType::Prismatic => {
+            let i = number * 2;
+            Pose::Slide(poses[i])
+        }
+    }
+}
+
+// A joint's frame at its pose in the list.
+pub fn frame_in(joint: Joint, poses: &[f64]) -> Frame
+    requires { ⌜ (moves (joint .kind) ≡ true → joint .number * 2 + 1 < length (now poses)) ⌝ }
+    ensures { λ r. ⌜ r ≡ jointFrame (joint .kind) (joint .origin) (joint .axis) (poseIn (joint .kind) (joint .number) (now (poses .entry))) ⌝ }
+{
+    let kind = joint.kind;
+    let number = joint.number;
+    let pose = pose_in(kind, number, poses);
+    joint_frame(kind, joint.origin, joint.axis, pose)
+}
+
+// What fills an array of frames at first.
+pub fn zero_frame() -> Frame
+    ensures { λ r. ⌜ r ≡ zeroFrame ⌝ }
+{
+    let rotation = Quaternion {
+        w: 0.0,
+        i: 0.0,
+        j: 0.0,
+        k: 0.0,
+    };
+    Frame {
+        rotation,
+        translation: zero_vector(),
+    }
+}
