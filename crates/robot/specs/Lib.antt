@@ -1,0 +1,6 @@
+pub mod Table
+pub mod Call
+pub mod Refusal
+pub mod Figures
+pub mod Outcome
+pub mod Solved

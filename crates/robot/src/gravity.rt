@@ -1,0 +1,78 @@
+// Gravity, fixed and floating.
+ghost use mathlib.Core.List.{[]};
+ghost use mathlib.Core.Path.{_≡_};
+ghost use Rattle.robot.specs.Call.{callOf};
+ghost use Rattle.robot.specs.Outcome.{outcome, told};
+use crate::Function;
+use crate::checks::check_output;
+use crate::checks::check_start;
+use crate::poses::pose_table;
+use crate::roots::check_figures;
+use crate::solve::solve_gravity;
+use dynamics::weights::turned;
+use loads::LoadSums;
+use model::BaseState;
+use model::Checked;
+use model::Model;
+use model::Pose;
+use model::RootMode;
+use model::number_of;
+use spatial::constants::standard_gravity;
+
+// Every call is answered: a refusal's number with the output as found, or the figures.
+pub fn gravity(
+    mode: RootMode,
+    model: Model,
+    base: BaseState,
+    positions: [Pose; 63],
+    entries: usize,
+    loads: LoadSums,
+    output: &mut [f64],
+) -> u8
+    ensures { λ r. ⌜ told r (now (output .exit)) ≡ outcome (callOf Function.Gravity mode model base positions entries [] [] loads) (now (output .entry)) ⌝ }
+{
+    let count = model.count;
+    let moving = model.moving;
+    let start = check_start(
+        &model.links,
+        &model.joints,
+        &model.kinds,
+        &model.parents,
+        &model.numbers,
+        count,
+        moving,
+        base,
+        positions,
+        entries,
+    );
+    let Checked::Good = start else {
+        return number_of(start);
+    };
+    let length = check_output(mode, output.len(), moving);
+    let Checked::Good = length else {
+        return number_of(length);
+    };
+    let refused = loads.number;
+    if refused != 0 {
+        return refused;
+    }
+    let root = turned(base.frame.rotation, standard_gravity());
+    let poses = pose_table(positions, entries);
+    let sums = loads.sums;
+    solve_gravity(
+        mode,
+        &model.links,
+        &model.joints,
+        &model.kinds,
+        &model.parents,
+        &model.numbers,
+        count,
+        moving,
+        base.frame.rotation,
+        root,
+        &poses,
+        sums,
+        output,
+    );
+    check_figures(output)
+}

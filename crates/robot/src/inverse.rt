@@ -1,0 +1,89 @@
+// Inverse dynamics, fixed and floating.
+ghost use mathlib.Core.Path.{_≡_};
+ghost use Rattle.robot.specs.Call.{callOf};
+ghost use Rattle.robot.specs.Outcome.{outcome, told};
+use crate::Function;
+use crate::checks::check_output;
+use crate::checks::check_start;
+use crate::poses::pose_table;
+use crate::roots::check_figures;
+use crate::roots::inverse_root;
+use crate::solve::solve_inverse;
+use loads::LoadSums;
+use model::BaseState;
+use model::Checked;
+use model::Model;
+use model::Pose;
+use model::RootMode;
+use model::lists::check_list;
+use model::number_of;
+
+// Every call is answered: a refusal's number with the output as found, or the figures.
+pub fn inverse_dynamics<'a>(
+    mode: RootMode,
+    model: Model,
+    base: BaseState,
+    positions: [Pose; 63],
+    entries: usize,
+    speeds: &'a [f64],
+    accelerations: &'a [f64],
+    loads: LoadSums,
+    output: &mut [f64],
+) -> u8
+    ensures { λ r. ⌜ told r (now (output .exit)) ≡ outcome (callOf Function.InverseDynamics mode model base positions entries (now (speeds .entry)) (now (accelerations .entry)) loads) (now (output .entry)) ⌝ }
+{
+    let count = model.count;
+    let moving = model.moving;
+    let start = check_start(
+        &model.links,
+        &model.joints,
+        &model.kinds,
+        &model.parents,
+        &model.numbers,
+        count,
+        moving,
+        base,
+        positions,
+        entries,
+    );
+    let Checked::Good = start else {
+        return number_of(start);
+    };
+    let speed = check_list(speeds, moving);
+    let Checked::Good = speed else {
+        return number_of(speed);
+    };
+    let acceleration = check_list(accelerations, moving);
+    let Checked::Good = acceleration else {
+        return number_of(acceleration);
+    };
+    let length = check_output(mode, output.len(), moving);
+    let Checked::Good = length else {
+        return number_of(length);
+    };
+    let refused = loads.number;
+    if refused != 0 {
+        return refused;
+    }
+    let root = inverse_root(mode, base);
+    let poses = pose_table(positions, entries);
+    let sums = loads.sums;
+    solve_inverse(
+        mode,
+        &model.links,
+        &model.joints,
+        &model.kinds,
+        &model.parents,
+        &model.numbers,
+        count,
+        moving,
+        base.frame.rotation,
+        root,
+        &poses,
+        speeds,
+        accelerations,
+        sums,
+        output,
+    );
+    check_figures(output)
+}

@@ -1,0 +1,84 @@
+// Velocity product, fixed and floating.
+ghost use mathlib.Core.List.{[]};
+ghost use mathlib.Core.Path.{_≡_};
+ghost use Rattle.loads.specs.Sums.{startSums};
+ghost use Rattle.robot.specs.Call.{callOf};
+ghost use Rattle.robot.specs.Outcome.{outcome, told};
+use crate::Function;
+use crate::checks::check_output;
+use crate::checks::check_start;
+use crate::poses::pose_table;
+use crate::roots::check_figures;
+use crate::roots::no_accelerations;
+use crate::roots::velocity_root;
+use crate::solve::solve_inverse;
+use loads::sums::start;
+use model::BaseState;
+use model::Checked;
+use model::Model;
+use model::Pose;
+use model::RootMode;
+use model::lists::check_list;
+use model::number_of;
+
+// Every call is answered: a refusal's number with the output as found, or the figures.
+pub fn velocity_product_forces<'a>(
+    mode: RootMode,
+    model: Model,
+    base: BaseState,
+    positions: [Pose; 63],
+    entries: usize,
+    speeds: &'a [f64],
+    output: &mut [f64],
+) -> u8
+    ensures { λ r. ⌜ told r (now (output .exit)) ≡ outcome (callOf Function.VelocityProduct mode model base positions entries (now (speeds .entry)) [] startSums) (now (output .entry)) ⌝ }
+{
+    let count = model.count;
+    let moving = model.moving;
+    let begun = check_start(
+        &model.links,
+        &model.joints,
+        &model.kinds,
+        &model.parents,
+        &model.numbers,
+        count,
+        moving,
+        base,
+        positions,
+        entries,
+    );
+    let Checked::Good = begun else {
+        return number_of(begun);
+    };
+    let speed = check_list(speeds, moving);
+    let Checked::Good = speed else {
+        return number_of(speed);
+    };
+    let length = check_output(mode, output.len(), moving);
+    let Checked::Good = length else {
+        return number_of(length);
+    };
+    let root = velocity_root(mode, base);
+    let poses = pose_table(positions, entries);
+    let accelerations = no_accelerations();
+    let none = start();
+    let sums = none.sums;
+    solve_inverse(
+        mode,
+        &model.links,
+        &model.joints,
+        &model.kinds,
+        &model.parents,
+        &model.numbers,
+        count,
+        moving,
+        base.frame.rotation,
+        root,
+        &poses,
+        speeds,
+        &accelerations,
+        sums,
+        output,
+    );
+    check_figures(output)
+}
