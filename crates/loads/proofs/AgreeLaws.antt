@@ -10,9 +10,10 @@ use Rattle.loads.specs.declared.LoadBuffer.{LoadBuffer}
 use Rattle.loads.specs.declared.Tables.the-variants.{Sound, Corrupt}
 use Rattle.loads.specs.declared.LinkCount.the-variants.{Allowed, Refused}
 use Rattle.loads.specs.Checks.{tablesOf, linkCount, linkCountOf}
-use Rattle.loads.specs.Agree.{at, markAgrees, placeAgrees, allBelow, countsAgree, tablesAgree, tables}
-use Rattle.loads.proofs.BoolLaws.{and-left, and-right, and-both, and-false, by-bool}
-use Rattle.loads.proofs.BelowLaws.{all-false}
+use Rattle.loads.specs.Agree.{at, markAgrees, placeAgrees, countsAgree, tablesAgree, tables}
+use Rattle.spatial.proofs.BoolLaws.{and-left, and-right, and-both, and-false, by-bool}
+use Rattle.spatial.specs.All.{all}
+use Rattle.spatial.proofs.AllLaws.{all-false}
 
 allowed-true : (t : Bool) → linkCountOf t ≡ Allowed → t ≡ true
 allowed-true true e = refl
@@ -70,6 +71,6 @@ module _ (b : LoadBuffer) where
   unfolding tables tablesAgree
   corrupt-at i l h = ap tablesOf (sym (and-false (countsAgree b) _ (all-false 64 i (placeAgrees b) l h)))
 
-  pub sound-all : linkCount (b .links) ≡ Allowed → b .count ≤ b .links → allBelow 64 (placeAgrees b) ≡ true → Sound ≡ tables b
+  pub sound-all : linkCount (b .links) ≡ Allowed → b .count ≤ b .links → all 64 (placeAgrees b) ≡ true → Sound ≡ tables b
   unfolding linkCount tables tablesAgree countsAgree
   sound-all h l e = ap tablesOf (sym (and-both _ _ (and-both _ _ (allowed-true (leb 1 (b .links) && leb (b .links) 64) h) (le-leb _ _ l)) e))

@@ -17,7 +17,7 @@ use Rattle.loads.specs.declared.Stored.{Stored}
 use Rattle.loads.specs.declared.LoadBuffer.{LoadBuffer}
 use Rattle.loads.specs.Agree.{MAX, noStored, at, mark, tablesAgree}
 use Rattle.loads.specs.Calls.{addedOf, loadOf, blankTable}
-use Rattle.loads.proofs.BoolLaws.{same-or-not}
+use Rattle.spatial.proofs.BoolLaws.{same-or-not}
 use Rattle.loads.proofs.Decided.{mark-small}
 
 -- an empty mark may be looked up at place 0

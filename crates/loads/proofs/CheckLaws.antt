@@ -4,7 +4,7 @@ use mathlib.Core.Path.{_≡_, refl}
 use mathlib.Core.Bool.{Bool, true, false, _&&_}
 use lib.Dec.{ltb, leb, eqb}
 use borrow.Author.Tests.{ltb-true, leb-true, eqb-true, lt-ltb, eq-eqb}
-use Rattle.loads.proofs.BoolLaws.{and-left, and-right}
+use Rattle.spatial.proofs.BoolLaws.{and-left, and-right}
 use Rattle.spatial.specs.declared.Wrench.{Wrench}
 use Rattle.spatial.specs.Finite.{allFinite, wrenchNumbers}
 use Rattle.loads.specs.declared.LinkId.the-variants.{Known}

@@ -10,9 +10,11 @@ use lib.Dec.{ltb, leb, eqb}
 use borrow.Author.Tests.{ltb-true, leb-true, eqb-true, lt-ltb, le-ltb, le-leb, eq-eqb}
 use Rattle.spatial.specs.Finite.{allFinite, wrenchNumbers}
 use Rattle.loads.specs.declared.LoadBuffer.{LoadBuffer}
-use Rattle.loads.specs.Agree.{MAX, at, mark, Held, Counts, Kept, Agree, isCleared, loadAgrees, markAgrees, placeAgrees, allBelow, countsAgree, tablesAgree}
-use Rattle.loads.proofs.BoolLaws.{and-left, and-right, and-both, or-cases, or-left, or-right, lt-or-ge, same-or-not, upto}
-use Rattle.loads.proofs.BelowLaws.{all-at, all-if, bit, count, count-lt, count-more}
+use Rattle.loads.specs.Agree.{MAX, at, mark, Held, Counts, Kept, Agree, isCleared, loadAgrees, markAgrees, placeAgrees, countsAgree, tablesAgree}
+use Rattle.spatial.proofs.BoolLaws.{and-left, and-right, and-both, or-cases, or-left, or-right, lt-or-ge, same-or-not, upto}
+use Rattle.spatial.specs.All as All
+use Rattle.spatial.proofs.AllLaws.{all-at, all-if}
+use Rattle.loads.proofs.CountLaws.{bit, count, count-lt, count-more}
 use Rattle.loads.proofs.ZeroLaws.{cleared-passes, passed-cleared}
 
 module _ (b : LoadBuffer) (h : tablesAgree b ≡ true) where
@@ -33,11 +35,11 @@ module _ (b : LoadBuffer) (h : tablesAgree b ≡ true) where
     fit = leb-true _ _ (and-right (c₁ && c₂) c₃ all);
   } where
     all : countsAgree b ≡ true
-    all = and-left (countsAgree b) (allBelow 64 (placeAgrees b)) h
+    all = and-left (countsAgree b) (All.all 64 (placeAgrees b)) h
 
   placed : (i : ℕ) → i < 64 → placeAgrees b i ≡ true
   unfolding tablesAgree
-  placed i l = all-at 64 i (placeAgrees b) (and-right (countsAgree b) (allBelow 64 (placeAgrees b)) h) l
+  placed i l = all-at 64 i (placeAgrees b) (and-right (countsAgree b) (All.all 64 (placeAgrees b)) h) l
 
   loaded : (i : ℕ) → i < 64 → loadAgrees (b .links) (b .count) i (at b i) (mark b (at b i .link)) ≡ true
   unfolding placeAgrees

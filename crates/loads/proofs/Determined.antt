@@ -15,7 +15,7 @@ use Rattle.loads.specs.declared.LoadBuffer.{LoadBuffer}
 use Rattle.loads.specs.Agree.{MAX, cleared, noStored, at, mark, Sized, Agree}
 use Rattle.loads.specs.Calls.{stored}
 use Rattle.loads.specs.Map.{placeOf, has, table, bufferOf}
-use Rattle.loads.proofs.BoolLaws.{upto}
+use Rattle.spatial.proofs.BoolLaws.{upto}
 use Rattle.loads.proofs.Decided.{back, decided}
 use Rattle.loads.proofs.MapPut.{stored-length}
 use Rattle.loads.proofs.MapRemove.{present, absent}

@@ -1,5 +1,4 @@
-pub mod BoolLaws
-pub mod BelowLaws
+pub mod CountLaws
 pub mod CheckLaws
 pub mod SumLaws
 pub mod AgreeLaws

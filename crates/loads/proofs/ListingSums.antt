@@ -26,7 +26,7 @@ use Rattle.loads.specs.Sums.{startSums, sumStep, sumFrom, loadSums}
 use Rattle.loads.specs.Agree.{noStored, at, Sized, Doubles, Held, Agree}
 use Rattle.loads.specs.Calls.{stored, loadOf}
 use Rattle.loads.specs.Map.{table, sumOf}
-use Rattle.loads.proofs.BoolLaws.{and-left, and-right, and-both, same-or-not}
+use Rattle.spatial.proofs.BoolLaws.{and-left, and-right, and-both, same-or-not}
 use Rattle.loads.proofs.CheckLaws.{known-if, wrench-finite}
 use Rattle.loads.proofs.SumLaws.{step-taken}
 use Rattle.loads.proofs.ZeroSum.{zero-sum}

@@ -16,7 +16,7 @@ use Rattle.loads.specs.declared.LoadBuffer.{LoadBuffer}
 use Rattle.loads.specs.Agree.{MAX, noStored, at, mark, Sized, Agree}
 use Rattle.loads.specs.Calls.{entry, appendOf, replaceOf, putOf, stored}
 use Rattle.loads.specs.Map.{mapSet}
-use Rattle.loads.proofs.BoolLaws.{same-or-not}
+use Rattle.spatial.proofs.BoolLaws.{same-or-not}
 use Rattle.loads.proofs.Decided.{room, here, decided}
 
 -- ---- the map's step, where the link is new, and where it stands at p

@@ -15,7 +15,7 @@ use Rattle.loads.specs.declared.LoadBuffer.{LoadBuffer}
 use Rattle.loads.specs.Agree.{MAX, cleared, noStored, at, mark, Sized, Agree}
 use Rattle.loads.specs.Calls.{takenOf, dropOf, stored}
 use Rattle.loads.specs.Map.{placeOf, has, mapRemove}
-use Rattle.loads.proofs.BoolLaws.{lt-or-ge, same-or-not}
+use Rattle.spatial.proofs.BoolLaws.{lt-or-ge, same-or-not}
 use Rattle.loads.proofs.Decided.{here, decided}
 use Rattle.loads.proofs.MapPut.{long, stored-length, stored-at, not-at, only-at}
 

@@ -20,7 +20,7 @@ use Rattle.loads.specs.Agree.{MAX, cleared, noStored, at, mark, Sized, A
 use Rattle.loads.specs.Calls.{putOf, addedOf, dropOf, setOf, addOf, removeOf, clearOf, lenOf, isEmptyOf, emptyBuffer, newOf, stored, listedIn, listOf}
 use Rattle.loads.specs.Map.{placeOf, mapSet, mapAdded, mapRemove, bufferOf}
 use Rattle.loads.specs.Runs.{Call, answerOf, afterOf, answersOf, lastOf, setRefused, addRefused, removeRefused, mapAnswer, mapAfter, mapAnswers, mapLast}
-use Rattle.loads.proofs.BoolLaws.{same-or-not}
+use Rattle.spatial.proofs.BoolLaws.{same-or-not}
 use Rattle.loads.proofs.CheckLaws.{known-link, finite-wrench}
 use Rattle.loads.proofs.AgreeLaws.{true-sound, allowed-few, allowed-some, allowed-if, corrupt-links}
 use Rattle.loads.proofs.Decided.{here, decided}

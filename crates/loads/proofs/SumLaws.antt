@@ -7,7 +7,7 @@ use native.Mathlib.Omega.{arith}
 use native.Mathlib.Numerals.{add-one}
 use lib.Ieee.{Float}
 use lib.ListN.{length, set, length-append}
-use Rattle.loads.proofs.BoolLaws.{upto}
+use Rattle.spatial.proofs.BoolLaws.{upto}
 use Rattle.loads.specs.declared.Load.{Load}
 use Rattle.loads.specs.declared.LoadSums.{LoadSums}
 use Rattle.loads.specs.declared.LinkId.the-variants.{Known, Unknown}

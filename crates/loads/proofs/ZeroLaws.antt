@@ -11,7 +11,7 @@ use Rattle.spatial.specs.Finite.{isPlusZero}
 use Rattle.spatial.proofs.FiniteLaws.{zero-bits}
 use Rattle.loads.specs.declared.Stored.{Stored}
 use Rattle.loads.specs.Agree.{cleared, Doubles, isZeroVector, isCleared}
-use Rattle.loads.proofs.BoolLaws.{and-left, and-right}
+use Rattle.spatial.proofs.BoolLaws.{and-left, and-right}
 
 zero-passes : isPlusZero plusZero ≡ true
 unfolding toBits size fits

@@ -15,7 +15,7 @@ use borrow.Author.Tests.{lt-ltb}
 use Rattle.spatial.specs.Float.{_⊕_}
 use Rattle.spatial.specs.Constants.{plusZero}
 use Rattle.spatial.specs.Finite.{isFinite}
-use Rattle.loads.proofs.BoolLaws.{lt-or-ge}
+use Rattle.spatial.proofs.BoolLaws.{lt-or-ge}
 
 value-finite : (x : Float) (s : Bool) (a c : ℕ) → HasValue x s a c → isFinite x ≡ true
 unfolding isFinite

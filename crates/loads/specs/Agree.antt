@@ -1,11 +1,12 @@
 -- 01, The load buffer: what it is that the tables agree, and a test of it place by place.
-use Prim.Native.Nat.{ℕ, zero, suc, _<_, _≤_}
+use Prim.Native.Nat.{ℕ, _<_, _≤_}
 use mathlib.Core.Path.{_≡_}
 use mathlib.Core.Bool.{Bool, true, _&&_, _||_, cond}
 use lib.Dec.{T, ltb, leb, eqb}
 use lib.Ieee.{binary64, fits}
 use lib.ListN.{length, getD}
 use Rattle.spatial.specs.declared.Vector3.{Vector3}
+use Rattle.spatial.specs.All.{all}
 use Rattle.spatial.specs.Constants.{zeroWrench}
 use Rattle.spatial.specs.Finite.{allFinite, wrenchNumbers, isPlusZero}
 use Rattle.loads.specs.declared.Stored.{Stored}
@@ -89,15 +90,11 @@ placeAgrees b i =
     loadAgrees (b .links) (b .count) i (at b i) (mark b (at b i .link))
     && markAgrees (b .count) i (mark b i) (at b (mark b i) .link)
 
-unfoldable pub allBelow : ℕ → (ℕ → Bool) → Bool
-allBelow zero f = true
-allBelow (suc n) f = allBelow n f && f n
-
 unfoldable pub countsAgree : LoadBuffer → Bool
 countsAgree b = (leb 1 (b .links) && leb (b .links) 64) && leb (b .count) (b .links)
 
 unfoldable pub tablesAgree : LoadBuffer → Bool
-tablesAgree b = countsAgree b && allBelow 64 (placeAgrees b)
+tablesAgree b = countsAgree b && all 64 (placeAgrees b)
 
 unfoldable pub tables : LoadBuffer → Tables
 tables b = tablesOf (tablesAgree b)

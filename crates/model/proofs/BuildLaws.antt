@@ -21,7 +21,7 @@ use Rattle.model.specs.View.{View}
 use Rattle.model.specs.Links.{linkNumbers}
 use Rattle.model.specs.Joints.{jointNumbers}
 use Rattle.model.specs.Flat.{vectorAt, frameAt, linkAt, kindOf, jointAt, modelView}
-use Rattle.model.proofs.NumberLaws.{lt-or-ge}
+use Rattle.spatial.proofs.BoolLaws.{lt-or-ge}
 use Rattle.model.specs.Build.{pasted, codeOf, withLink, withJoint}
 
 -- ---- numbers pasted into a list

@@ -11,7 +11,7 @@ use Rattle.spatial.specs.All.{all}
 use Rattle.spatial.specs.Constants.{plusZero}
 use Rattle.spatial.specs.Finite.{allFinite}
 use Rattle.spatial.specs.Unit.{unitVector, unitQuaternion}
-use Rattle.spatial.proofs.AllLaws.{and-left, and-right, and-both, all-at, all-if}
+use Rattle.spatial.proofs.AllLaws.{all-at, all-if}
 use Rattle.model.specs.declared.Checked.the-variants.{Good, InvalidModel}
 use Rattle.model.specs.Numbers.{Holds, numbered}
 use Rattle.model.specs.declared.Link.{Link}
@@ -22,8 +22,8 @@ use Rattle.model.specs.Links.{linkNumbers, GoodLink, weighs, goodLink}
 use Rattle.model.specs.Joints.{jointNumbers, GoodJoint, axisFits, fits, goodJoint}
 use Rattle.model.specs.Bases.{baseNumbers, GoodBase, goodBase}
 use Rattle.model.specs.Good.{GoodModel, countsFit, goodModel, modelChecked}
-use Rattle.model.proofs.NumberLaws.{by-bool}
-use Rattle.model.proofs.NumberedLaws.{or-right, numbered-says, says-numbered, few-numbers}
+use Rattle.spatial.proofs.BoolLaws.{and-both, and-left, and-right, by-bool, or-right}
+use Rattle.model.proofs.NumberedLaws.{numbered-says, says-numbered, few-numbers}
 
 -- ---- the check's tests
 

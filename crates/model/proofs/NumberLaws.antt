@@ -11,8 +11,9 @@ use lib.Dec.{eqb, ltb}
 use lib.ListN.{length, getD, set, getD-replicate}
 use lib.Seq.{getD-set-same, getD-set-other}
 use borrow.Author.Tests.{lt-ltb, le-ltb, ltb-true, ltb-false, eq-eqb, ne-eqb}
+use Rattle.spatial.proofs.BoolLaws.{and-false, and-true, lt-or-ge}
 use Rattle.spatial.specs.All.{all}
-use Rattle.spatial.proofs.AllLaws.{and-true, all-turn, all-same}
+use Rattle.spatial.proofs.AllLaws.{all-turn, all-same}
 use Rattle.model.specs.declared.JointType.{JointType}
 use Rattle.model.specs.declared.JointType.the-variants.{Revolute, Prismatic}
 use Rattle.model.specs.View.{moves}
@@ -20,17 +21,6 @@ use Rattle.model.specs.Flat.{kindOf}
 use Rattle.model.specs.Numbers.{Numbering, holds, taken, numberFits, numberedAt, numbered}
 use Rattle.model.specs.Poses.{kindOfNumber}
 use Rattle.model.specs.Marks.{noMarks, slotOf, noCodes, Coded}
-
-pub by-bool : (b : Bool) → (b ≡ true) ⊎ (b ≡ false)
-by-bool true = inl refl
-by-bool false = inr refl
-
-pub lt-or-ge : (m n : ℕ) → (m < n) ⊎ (n ≤ m)
-lt-or-ge m n = ⊎-elim (λ e. inl (ltb-true m n e)) (λ e. inr (ltb-false m n e)) (by-bool (ltb m n))
-
-and-false : (b : Bool) → (b && false) ≡ false
-and-false true = refl
-and-false false = refl
 
 or-false : (a b : Bool) → (a || (b && false)) ≡ a
 or-false true b = refl
@@ -159,7 +149,7 @@ module _ (t : Numbering) (code : ℕ → ℕ) (m : (j : ℕ) → t .moves j ≡ 
       go (no q) =
           ap kindOf (getD-set-other codes place n v 0 q)
           ∙ inv n l
-          ∙ sym (rw (ne-eqb (t .number j) n (slot-other (t .number j) (t .moving) n l (λ r. q (r ∙ sym e)))) (ap next (and-false (t .moves j))))
+          ∙ sym (rw (ne-eqb (t .number j) n (slot-other (t .number j) (t .moving) n l (λ r. q (r ∙ sym e)))) (ap next (and-false (t .moves j) false refl)))
 
 pub coded-end : (t : Numbering) (kind : ℕ → JointType) (j k : ℕ) (codes : List ℕ) → j ≤ k → k ≤ j → Coded t kind j codes → Coded t kind k codes
 coded-end t kind j k codes p q inv n l = inv n l ∙ ap (λ (i : ℕ). kindOfNumber t kind i n) (let e : j ≡ k = omega arith in e)

@@ -8,18 +8,10 @@ use native.Mathlib.Omega.{arith}
 use lib.Dec.{eqb, ltb}
 use borrow.Author.Tests.{lt-ltb, ltb-true, eq-eqb, eqb-true, not-true}
 use Rattle.spatial.specs.All.{all}
-use Rattle.spatial.proofs.AllLaws.{and-left, and-right, and-both, all-at, all-if}
+use Rattle.spatial.proofs.AllLaws.{all-at, all-if}
 use Rattle.model.specs.Numbers.{Numbering, Holds, Numbered, noNumber, holds, taken, numberedAt, numbered, holderOf}
-use Rattle.model.proofs.NumberLaws.{by-bool, lt-or-ge}
+use Rattle.spatial.proofs.BoolLaws.{and-both, and-left, and-right, by-bool, lt-or-ge, or-cases, or-right}
 use Rattle.model.proofs.Pigeonhole.{pigeonhole}
-
-or-cases : (a b : Bool) → (a || b) ≡ true → (a ≡ true) ⊎ (b ≡ true)
-or-cases true b h = inl refl
-or-cases false b h = inr h
-
-pub or-right : (a b : Bool) → b ≡ true → (a || b) ≡ true
-or-right true b h = refl
-or-right false b h = h
 
 -- a number is taken where a joint before holds it
 pub taken-by : (t : Numbering) (j n : ℕ) → taken t j n ≡ true → (i : ℕ) × (i < j) × (holds t n i ≡ true)

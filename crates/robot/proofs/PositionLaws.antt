@@ -18,7 +18,7 @@ use Rattle.model.specs.declared.Checked.{Checked}
 use Rattle.model.specs.declared.Checked.the-variants.{Good, InvalidModel, InvalidBaseState, WrongLength, InvalidPose, NonFiniteInput}
 use Rattle.model.specs.declared.JointType.{JointType}
 use Rattle.model.specs.declared.Pose.{Pose}
-use Rattle.model.proofs.NumberLaws.{by-bool}
+use Rattle.spatial.proofs.BoolLaws.{by-bool}
 use Rattle.model.proofs.NumberedLaws.{said, told}
 use Rattle.dynamics.specs.Flat.{poseIn}
 use Rattle.robot.specs.Table.{Tabled}

@@ -1,38 +1,12 @@
--- Laws of `&&` and of `all`: a test at every number below n says just what it says at each.
+-- A test at every number below n says just what it says at each.
 use Prim.Native.Nat.{ℕ, zero, suc, _+_, _<_, _≤_}
 use mathlib.Core.Path.{_≡_, refl, sym, ap, _∙_}
 use mathlib.Core.Bool.{Bool, true, false, _&&_}
 use mathlib.Core.Logic.{_⊎_, ⊎-elim}
 use native.Mathlib.Omega.{arith}
-use native.Mathlib.Nat.{eq-or-lt-of-le}
 use native.Mathlib.Numerals.{add-one}
 use Rattle.spatial.specs.All.{all}
-
-pub and-left : (a b : Bool) → (a && b) ≡ true → a ≡ true
-and-left true b h = refl
-and-left false b h = h
-
-pub and-right : (a b : Bool) → (a && b) ≡ true → b ≡ true
-and-right true b h = h
-and-right false b h = let z : _≡_ {A = Bool} false true = h in cc
-
-pub and-both : (a b : Bool) → a ≡ true → b ≡ true → (a && b) ≡ true
-and-both a b h k = simp (h, k)
-
-pub and-assoc : (a b c : Bool) → ((a && b) && c) ≡ (a && (b && c))
-and-assoc true b c = refl
-and-assoc false b c = refl
-
-pub and-true : (a : Bool) → (a && true) ≡ a
-and-true true = refl
-and-true false = refl
-
--- two pairs of tests, taken crosswise
-pub and-cross : (a b c d : Bool) → ((a && b) && (c && d)) ≡ ((a && c) && (b && d))
-and-cross true true c d = refl
-and-cross true false true d = refl
-and-cross true false false d = refl
-and-cross false b c d = refl
+use Rattle.spatial.proofs.BoolLaws.{and-left, and-right, and-both, and-false, and-cross, upto}
 
 -- a loop that tests one number after another: its start, a turn, its end
 pub all-start : (f : ℕ → Bool) → true ≡ all 0 f
@@ -46,17 +20,26 @@ all-turn f n good now e h = rw (add-one, e, h)
 pub all-end : (f : ℕ → Bool) (k n : ℕ) (good : Bool) → good ≡ all k f → k ≤ n → n ≤ k → good ≡ all n f
 all-end f k n good e p q = e ∙ ap (λ (i : ℕ). all i f) (let r : k ≡ n = omega arith in r)
 
+-- one more, where those before it passed
+pub all-more : (n : ℕ) (f : ℕ → Bool) → all n f ≡ true → f n ≡ true → all (n + 1) f ≡ true
+unfolding all
+all-more n f h e = rw add-one (and-both (all n f) (f n) h e)
+
 pub all-at : (n k : ℕ) (f : ℕ → Bool) → all n f ≡ true → k < n → f k ≡ true
 unfolding all
 all-at zero k f h l = absurd (omega arith)
-all-at (suc n) k f h l =
-    let m : k ≤ n = omega arith in
-    ⊎-elim (λ e. ap f e ∙ and-right (all n f) (f n) h) (λ q. all-at n k f (and-left (all n f) (f n) h) q) (eq-or-lt-of-le m)
+all-at (suc n) k f h l = ⊎-elim (λ e. ap f e ∙ and-right (all n f) (f n) h) (λ m. all-at n k f (and-left (all n f) (f n) h) m) (upto n k l)
 
 pub all-if : (n : ℕ) (f : ℕ → Bool) → ((k : ℕ) → k < n → f k ≡ true) → all n f ≡ true
 unfolding all
 all-if zero f h = refl
 all-if (suc n) f h = and-both (all n f) (f n) (all-if n f (λ k l. h k (omega arith))) (h n (omega arith))
+
+pub all-false : (n k : ℕ) (f : ℕ → Bool) → k < n → f k ≡ false → all n f ≡ false
+unfolding all
+all-false zero k f l e = absurd (omega arith)
+all-false (suc n) k f l e =
+    ⊎-elim (λ q. and-false (all n f) (f n) (ap f (sym q) ∙ e)) (λ m. ap (λ (t : Bool). t && f n) (all-false n k f m e)) (upto n k l)
 
 pub all-same : (n : ℕ) (f g : ℕ → Bool) → ((k : ℕ) → k < n → f k ≡ g k) → all n f ≡ all n g
 unfolding all

@@ -18,7 +18,7 @@ use lib.Ieee.Fits.{down-pos}
 use lib.Ieee.Scale.{round-same}
 use borrow.Author.Tests.{le-ltb, eq-eqb, ne-eqb}
 use Rattle.spatial.specs.All.{all}
-use Rattle.spatial.proofs.AllLaws.{and-assoc, and-true}
+use Rattle.spatial.proofs.BoolLaws.{and-assoc, and-true}
 use Rattle.spatial.specs.Finite.{isFinite, allFinite, isPlusZero}
 
 -- ---- one double

@@ -1,3 +1,4 @@
+pub mod BoolLaws
 pub mod AllLaws
 pub mod FiniteLaws
 pub mod Worked

@@ -6,14 +6,15 @@ use borrow.Author.Needs.{needs}
 use borrow.Author.Tests.{not-true, not-false}
 use Rattle.loads.specs.declared.LinkCount.the-variants.{Allowed}
 use Rattle.loads.specs.Checks.{linkCount}
-use Rattle.loads.specs.Agree.{mark, allBelow, placeAgrees}
-use Rattle.loads.proofs.BelowLaws.{all-none, all-next}
+use Rattle.loads.specs.Agree.{mark, placeAgrees}
+use Rattle.spatial.specs.All.{all}
+use Rattle.spatial.proofs.AllLaws.{all-start, all-more}
 use Rattle.loads.proofs.AgreeLaws.{mark-within, corrupt-links, corrupt-count, corrupt-at, sound-all, allowed-few}
 use Rattle.loads.proofs.agree.tables_agree.Statement.{statement}
 use Rattle.loads.proofs.agree.tables_agree.Tie as tie
 
 abbrev Inv-loop : tie.InvT-loop
-Inv-loop b n m i₀ i = (i ≤ 64) × (allBelow i (placeAgrees b) ≡ true)
+Inv-loop b n m i₀ i = (i ≤ 64) × (all i (placeAgrees b) ≡ true)
 
 abbrev μ-loop : tie.MeasureT-loop
 μ-loop b n m i₀ i = 64 - i
@@ -52,7 +53,7 @@ returns-2 : tie.Need-returns-2 Inv-loop μ-loop
 returns-2 c = corrupt-count _ (c .if1 .taken)
 
 loop-holds : tie.Need-loop-holds Inv-loop μ-loop
-loop-holds c = (omega arith, all-none _)
+loop-holds c = (omega arith, sym (all-start _))
 
 mul-s : tie.Need-mul-s Inv-loop μ-loop
 mul-s c = search needs
@@ -94,10 +95,10 @@ loop-less : tie.Need-loop-less Inv-loop μ-loop
 loop-less c = search needs
 
 loop-again : tie.Need-loop-again Inv-loop μ-loop
-loop-again c = (omega (arith, c .before .before .before .before .before .before .before .before .before .before .before .loop-test .taken), all-next _ _ (c .before .before .before .before .before .before .before .before .before .before .before .before .loop .inv .1) (sym (found (c .before)) ∙ not-false _ (c .if2 .left)))
+loop-again c = (omega (arith, c .before .before .before .before .before .before .before .before .before .before .before .loop-test .taken), all-more _ _ (c .before .before .before .before .before .before .before .before .before .before .before .before .loop .inv .1) (sym (found (c .before)) ∙ not-false _ (c .if2 .left)))
 
 returns-4 : tie.Need-returns-4 Inv-loop μ-loop
-returns-4 c = let done : c .before .loop .i ≡ 64 = omega arith in sound-all _ (allowed (c .before .before .before)) (c .before .before .if1 .left) (ap (λ (n : ℕ). allBelow n (placeAgrees (c .before .before .before .before .before .before .args .t1))) (sym done) ∙ c .before .loop .inv .1)
+returns-4 c = let done : c .before .loop .i ≡ 64 = omega arith in sound-all _ (allowed (c .before .before .before)) (c .before .before .if1 .left) (ap (λ (n : ℕ). all n (placeAgrees (c .before .before .before .before .before .before .args .t1))) (sym done) ∙ c .before .loop .inv .1)
 
 pub tables-agree-spec : {M : Type 1} → statement M
 tables-agree-spec =

@@ -1,36 +1,10 @@
--- Laws of a test at each number below a bound, and of how many pass it.
+-- How many numbers below a bound pass a test.
 use mathlib.Core.Path.{_≡_, refl, sym, ap, _∙_}
-use mathlib.Core.Bool.{Bool, true, false, _&&_, cond}
+use mathlib.Core.Bool.{Bool, true, false, cond}
 use mathlib.Core.Logic.{⊎-elim}
 use Prim.Native.Nat.{ℕ, zero, suc, _+_, _<_, _≤_}
 use native.Mathlib.Omega.{arith}
-use native.Mathlib.Numerals.{add-one}
-use Rattle.loads.specs.Agree.{allBelow}
-use Rattle.loads.proofs.BoolLaws.{and-left, and-right, and-both, and-false, upto}
-
-pub all-none : (f : ℕ → Bool) → allBelow 0 f ≡ true
-unfolding allBelow
-all-none f = refl
-
-pub all-next : (n : ℕ) (f : ℕ → Bool) → allBelow n f ≡ true → f n ≡ true → allBelow (n + 1) f ≡ true
-unfolding allBelow
-all-next n f h e = rw add-one (and-both (allBelow n f) (f n) h e)
-
-pub all-at : (n k : ℕ) (f : ℕ → Bool) → allBelow n f ≡ true → k < n → f k ≡ true
-unfolding allBelow
-all-at zero k f h l = absurd (omega arith)
-all-at (suc n) k f h l = ⊎-elim (λ e. ap f e ∙ and-right (allBelow n f) (f n) h) (λ m. all-at n k f (and-left (allBelow n f) (f n) h) m) (upto n k l)
-
-pub all-if : (n : ℕ) (f : ℕ → Bool) → ((k : ℕ) → k < n → f k ≡ true) → allBelow n f ≡ true
-unfolding allBelow
-all-if zero f h = refl
-all-if (suc n) f h = and-both (allBelow n f) (f n) (all-if n f (λ k l. h k (omega arith))) (h n (omega arith))
-
-pub all-false : (n k : ℕ) (f : ℕ → Bool) → k < n → f k ≡ false → allBelow n f ≡ false
-unfolding allBelow
-all-false zero k f l e = absurd (omega arith)
-all-false (suc n) k f l e =
-    ⊎-elim (λ q. and-false (allBelow n f) (f n) (ap f (sym q) ∙ e)) (λ m. ap (λ (t : Bool). t && f n) (all-false n k f m e)) (upto n k l)
+use Rattle.spatial.proofs.BoolLaws.{upto}
 
 abbrev pub bit : Bool → ℕ
 bit t = cond t 1 0
