@@ -25,48 +25,48 @@ use Rattle.model.specs.Flat.{vectorAt, frameAt, linkAt, kindOf, modelVie
 use Rattle.model.specs.Good.{countsFit, goodModel}
 use Rattle.model.specs.Build.{pasted, blankModel, withLink, withJoint}
 
-abbrev one : Float
+abbrev pub one : Float
 one = fin false 1 (pos 0)
 
-abbrev two : Float
+abbrev pub two : Float
 two = fin false 1 (pos 1)
 
-abbrev vector : Float → Float → Float → Vector3
+abbrev pub vector : Float → Float → Float → Vector3
 vector x y z = record { x = x; y = y; z = z }
 
-abbrev zero₃ : Vector3
+abbrev pub zero₃ : Vector3
 zero₃ = vector plusZero plusZero plusZero
 
 -- a link of this mass and centre, with no inertia
-abbrev link : Float → Vector3 → Link
+abbrev pub link : Float → Vector3 → Link
 link mass center = record { mass = mass; center = center; inertia = record { x = zero₃; y = zero₃; z = zero₃ } }
 
-abbrev turned : Float → Quaternion
+abbrev pub turned : Float → Quaternion
 turned w = record { w = w; i = plusZero; j = plusZero; k = plusZero }
 
 -- a joint at its parent's origin
-abbrev joint : JointType → ℕ → ℕ → Vector3 → Joint
+abbrev pub joint : JointType → ℕ → ℕ → Vector3 → Joint
 joint kind parent number axis =
     record { kind = kind; parent = parent; number = number; origin = record { rotation = turned one; translation = zero₃ }; axis = axis }
 
-abbrev y : Vector3
+abbrev pub y : Vector3
 y = vector plusZero one plusZero
 
 -- the root alone, and the root with one link of mass 2 and centre (1, 0, 0) on this joint
-abbrev alone : Model
+abbrev pub alone : Model
 alone = blankModel 0 1 0
 
-abbrev arm : ℕ → Joint → Model
+abbrev pub arm : ℕ → Joint → Model
 arm m j = withJoint (withLink (blankModel 0 2 m) 1 (link two (vector one plusZero plusZero))) 0 j
 
 -- m1 with a second such branch at the root
-abbrev branches : Joint → Model
+abbrev pub branches : Joint → Model
 branches j = withJoint (withLink (withJoint (withLink (blankModel 0 3 2) 1 (link two (vector one plusZero plusZero))) 0 (joint Revolute 0 0 y)) 2 (link two (vector one plusZero plusZero))) 1 j
 
 abbrev good : Model → Bool
 good m = goodModel (modelView m)
 
-abbrev z : Vector3
+abbrev pub z : Vector3
 z = vector plusZero plusZero one
 
 -- W1, W2, W3, W6 and W7; W4; W5; W8; a mass of -0; a fixed joint whose axis has no length
@@ -83,7 +83,7 @@ unfolding goodModel countsFit numbered numberedAt taken goodJoint fits axisFits 
 good-models = refl
 
 -- the largest double
-abbrev largest : Float
+abbrev pub largest : Float
 largest = fin false 9007199254740991 (pos 971)
 
 -- m1's joint with another origin

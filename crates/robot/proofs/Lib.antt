@@ -6,3 +6,4 @@ pub mod PassedLaws
 pub mod OutcomeLaws
 pub mod FigureLaws
 pub mod Unique
+pub mod Worked
