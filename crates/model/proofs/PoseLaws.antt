@@ -1,19 +1,21 @@
 -- Laws of the first refusal in a list, and of positions.
 use Prim.Native.Nat.{ℕ, zero, suc, _+_, _<_, _≤_}
 use mathlib.Core.Path.{_≡_, refl, sym, ap, _∙_}
+use mathlib.Core.Bool.{Bool, true, false}
 use mathlib.Core.List.{List}
 use native.Mathlib.Numerals.{add-one}
 use native.Mathlib.Omega.{arith}
 use lib.ListN.{getD}
 use borrow.Author.Tests.{eq-eqb, ne-eqb}
+use Rattle.spatial.specs.Finite.{allFinite}
 use Rattle.model.specs.declared.JointType.{JointType}
 use Rattle.model.specs.declared.Pose.{Pose}
 use Rattle.model.specs.declared.Checked.{Checked}
-use Rattle.model.specs.declared.Checked.the-variants.{Good, WrongLength}
-use Rattle.model.specs.Answer.{orElse}
+use Rattle.model.specs.declared.Checked.the-variants.{Good, WrongLength, InvalidPose, NonFiniteInput}
+use Rattle.model.specs.Answer.{orElse, unless}
 use Rattle.model.specs.Flat.{kindOf}
 use Rattle.model.specs.Numbers.{Numbering}
-use Rattle.model.specs.Poses.{poseChecked, first, kindOfNumber, noPose, positionsChecked}
+use Rattle.model.specs.Poses.{poseNumbers, poseFits, GoodPose, poseChecked, first, kindOfNumber, noPose, positionsChecked}
 use Rattle.model.specs.Marks.{Coded}
 
 -- a loop that keeps the first refusal: its start, a turn
@@ -44,3 +46,18 @@ module _ (t : Numbering) (kind : ℕ → JointType) (ps : List Pose) (count : �
       (a
       ∙ ap (λ (k : ℕ). first k (λ i. poseChecked (kindOf (getD codes i 0)) (getD ps i noPose))) r
       ∙ first-same _ _ (t .moving) (λ k l. ap (λ (x : JointType). poseChecked x (getD ps k noPose)) (coded k l)))
+
+-- ---- the check of an entry says the rule, both ways
+
+told : (a b : Bool) → orElse (unless a NonFiniteInput) (unless b InvalidPose) ≡ Good → (a ≡ true) × (b ≡ true)
+told true true e = (refl, refl)
+told true false e = (refl, cc)
+told false b e = (cc, cc)
+
+pub pose-says : (kind : JointType) (p : Pose) → poseChecked kind p ≡ Good → GoodPose kind p
+unfolding poseChecked
+pose-says kind p e = let t = told (allFinite (poseNumbers p)) (poseFits kind p) e in record { finite = t .0; fits = t .1 }
+
+pub says-pose : (kind : JointType) (p : Pose) → GoodPose kind p → poseChecked kind p ≡ Good
+unfolding poseChecked
+says-pose kind p g = rw (g .finite, g .fits)

@@ -3,6 +3,7 @@
 use Prim.Native.Nat.{ℕ, zero, suc}
 use mathlib.Core.Bool.{Bool, true, false, cond}
 use mathlib.Core.List.{List, [], _∷_}
+use mathlib.Core.Path.{_≡_}
 use lib.Dec.{eqb}
 use lib.ListN.{getD}
 use lib.Ieee.{Float, nan}
@@ -30,6 +31,13 @@ poseFits Revolute (Half s c) = unitPair s c
 poseFits Revolute (Slide x) = false
 poseFits Prismatic (Half s c) = false
 poseFits Prismatic (Slide x) = true
+
+-- a pose entry that is good at a joint of this kind
+pub record GoodPose (kind : JointType) (p : Pose) : Type 0 where
+  pub finite : allFinite (poseNumbers p) ≡ true
+  pub fits : poseFits kind p ≡ true
+
+-- ---- decided
 
 -- "5 before 4"
 unfoldable pub poseChecked : JointType → Pose → Checked
