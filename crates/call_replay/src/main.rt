@@ -3,14 +3,12 @@ ghost use Prim.Native.Nat.{_<_, _≤_};
 ghost use Rattle.io.specs.Counts.{Counts};
 use libc::STDIN_FILENO;
 use libc::STDOUT_FILENO;
-use loads::LoadSums;
-use loads::sums::prepare_indexed_loads;
 use model::BaseState;
 use model::Model;
 use model::Pose;
 use model::RootMode;
-use robot::gravity::gravity;
-use robot::inverse::inverse_dynamics;
+use robot::gravity::gravity_flat;
+use robot::inverse::inverse_dynamics_flat;
 use robot::velocity::velocity_product_forces;
 use spatial::Frame;
 use spatial::Quaternion;
@@ -369,16 +367,6 @@ fn lists_at(s: &[u8], at: usize) -> Lists {
     }
 }
 
-fn sums_at(s: &[u8], at: usize, n: usize, id: u64, count: usize) -> LoadSums
-    requires { ⌜ n ≤ 900 ⌝ }
-{
-    let ids = ids_at(s, at, n);
-    let links = load_links_at(s, at, n);
-    let wrenches = wrenches_at(s, at, n);
-    let end = n * 6;
-    prepare_indexed_loads(id, count, &ids[0..n], &links[0..n], &wrenches[0..end])
-}
-
 // The number that the function of the case answers.
 fn asked<'a>(
     function: u64,
@@ -389,11 +377,13 @@ fn asked<'a>(
     entries: usize,
     speeds: &'a [f64],
     accelerations: &'a [f64],
-    sums: LoadSums,
+    ids: &'a [u64],
+    links: &'a [usize],
+    wrenches: &'a [f64],
     output: &mut [f64],
 ) -> u8 {
     if function == 1 {
-        return inverse_dynamics(
+        return inverse_dynamics_flat(
             mode,
             model,
             base,
@@ -401,17 +391,29 @@ fn asked<'a>(
             entries,
             speeds,
             accelerations,
-            sums,
+            ids,
+            links,
+            wrenches,
             output,
         );
     }
     if function == 2 {
-        return gravity(mode, model, base, positions, entries, sums, output);
+        return gravity_flat(
+            mode,
+            model,
+            base,
+            positions,
+            entries,
+            ids,
+            links,
+            wrenches,
+            output,
+        );
     }
     velocity_product_forces(mode, model, base, positions, entries, speeds, output)
 }
 
-// Whether the answer is the oracle's.
+// Whether the answer is the oracle's; so many loads stand at a place of the case.
 fn judged<'a>(
     function: u64,
     mode: RootMode,
@@ -421,10 +423,17 @@ fn judged<'a>(
     entries: usize,
     speeds: &'a [f64],
     accelerations: &'a [f64],
-    sums: LoadSums,
+    s: &'a [u8],
+    at: usize,
+    loads: usize,
     output: &mut [f64],
     answer: &'a [u8],
 ) -> bool {
+    let n = least(loads, 900);
+    let ids = ids_at(s, at, n);
+    let links = load_links_at(s, at, n);
+    let wrenches = wrenches_at(s, at, n);
+    let end = n * 6;
     let number = asked(
         function,
         mode,
@@ -434,14 +443,16 @@ fn judged<'a>(
         entries,
         speeds,
         accelerations,
-        sums,
+        &ids[0..n],
+        &links[0..n],
+        &wrenches[0..end],
         output,
     );
     same_answer(number, output, answer)
 }
 
 // One case frame and its answer frame.
-fn turn(s: &[u8], answer: &[u8]) -> bool {
+fn turn<'a>(s: &'a [u8], answer: &'a [u8]) -> bool {
     let model = model_at(s);
     let n = least(model.count, 64);
     let last = joints_of(n);
@@ -451,8 +462,6 @@ fn turn(s: &[u8], answer: &[u8]) -> bool {
     let held = least(entries, 63);
     let positions = positions_at(s, after(at, 160), held);
     let lists = lists_at(s, after(at, 160 + 17 * held));
-    let loads = least(lists.loads, 900);
-    let sums = sums_at(s, lists.third, loads, model.id, model.count);
     let fast = least(lists.fast, 512);
     let pushed = least(lists.pushed, 512);
     let wide = least(lists.wide, 512);
@@ -470,7 +479,9 @@ fn turn(s: &[u8], answer: &[u8]) -> bool {
         entries,
         &speeds[0..fast],
         &accelerations[0..pushed],
-        sums,
+        s,
+        lists.third,
+        lists.loads,
         &mut output[0..wide],
         answer,
     )

@@ -11,7 +11,7 @@ use Rattle.loads.specs.declared.LinkId.the-variants.{Known}
 use Rattle.loads.specs.declared.Finiteness.the-variants.{Finite}
 use Rattle.loads.specs.declared.Length.the-variants.{Right}
 use Rattle.loads.specs.declared.Amount.the-variants.{Few}
-use Rattle.loads.specs.Checks.{linkId, linkIdOf, finiteness, finitenessOf, tableLength, lengthOf, amount, amountOf}
+use Rattle.loads.specs.Checks.{linkId, linkIdOf, finiteness, finitenessOf, tableLength, listLength, lengthOf, amount, amountOf}
 
 known-true : (t : Bool) → linkIdOf t ≡ Known → t ≡ true
 known-true true e = refl
@@ -62,6 +62,10 @@ module _ (ids links numbers : ℕ) (h : tableLength ids links numbers ≡ Right)
 
   pub right-numbers : numbers ≡ 6 * ids
   right-numbers = eqb-true numbers (6 * ids) (and-right (eqb links ids) _ parts)
+
+pub right-list : (count places : ℕ) → listLength count places ≡ Right → count ≤ places
+unfolding listLength
+right-list count places h = leb-true count places (right-true (leb count places) h)
 
 pub few-loads : (n : ℕ) → amount n ≡ Few → n ≤ 256
 unfolding amount

@@ -1,6 +1,7 @@
 pub mod CountLaws
 pub mod CheckLaws
 pub mod SumLaws
+pub mod When
 pub mod AgreeLaws
 pub mod ZeroLaws
 pub mod Decided
@@ -9,6 +10,7 @@ pub mod MapPut
 pub mod MapRemove
 pub mod Determined
 pub mod Runs
+pub mod LentRuns
 pub mod ZeroSum
 pub mod ListingSums
 pub mod Worked

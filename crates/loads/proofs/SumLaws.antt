@@ -6,8 +6,10 @@ use mathlib.Core.Logic.{⊎-elim}
 use native.Mathlib.Omega.{arith}
 use native.Mathlib.Numerals.{add-one}
 use lib.Ieee.{Float}
-use lib.ListN.{length, set, length-append}
-use Rattle.spatial.proofs.BoolLaws.{upto}
+use lib.Dec.{leb}
+use lib.ListN.{length, set, take, length-append}
+use lib.Seq.{take-length}
+use Rattle.spatial.proofs.BoolLaws.{by-bool, upto}
 use Rattle.loads.specs.declared.Load.{Load}
 use Rattle.loads.specs.declared.LoadSums.{LoadSums}
 use Rattle.loads.specs.declared.LinkId.the-variants.{Known, Unknown}
@@ -15,7 +17,7 @@ use Rattle.loads.specs.declared.Finiteness.the-variants.{Finite, NonFini
 use Rattle.loads.specs.declared.Length.the-variants.{Right, Wrong}
 use Rattle.loads.specs.declared.Amount.the-variants.{Few, Many}
 use Rattle.loads.specs.Checks.{linkId, finiteness, tableLength, amount}
-use Rattle.loads.specs.Sums.{startSums, sumAt, sumStep, sumFrom, loadSums, preparedSums, loadAt, tableLoads, flatSums}
+use Rattle.loads.specs.Sums.{startSums, sumAt, sumStep, sumFrom, loadSums, preparedSums, walkStart, walkCount, loadAt, tableLoads, flatSums}
 
 abbrev pub numbered : ℕ → LoadSums → LoadSums
 numbered n s = record { number = n; sums = s .sums }
@@ -101,3 +103,10 @@ module _ (id count : ℕ) (ids links : List ℕ) (ws : List Float) where
     pub flat-swept : amount (length ids) ≡ Few → flatSums id count ids links ws ≡ swept (length ids)
     unfolding flatSums preparedSums loadSums
     flat-swept m = simp (h, table-length, m)
+
+-- ---- a walk over a lent table
+
+pub walk-prepares : (id links : ℕ) (ls : List Load) → sumFrom id links (walkStart (length ls)) (take (walkCount (length ls)) ls) ≡ preparedSums id links ls
+unfolding preparedSums loadSums sumFrom amount
+walk-prepares id links ls =
+    ⊎-elim (λ h. rw h (ap (sumFrom id links startSums) (take-length ls))) (λ h. rw h) (by-bool (leb (length ls) 256))

@@ -16,6 +16,10 @@ use Rattle.loads.specs.Checks.{orElse, accepted, linkId, linkNumber, fin
 unfoldable pub startSums : LoadSums
 startSums = record { number = 0; sums = replicate 64 zeroWrench }
 
+-- what stands past a list's end
+abbrev pub noLoad : Load
+noLoad = record { id = 0; link = 0; wrench = noWrench }
+
 -- the sum that a load makes at its link
 abbrev pub sumAt : LoadSums → Load → Wrench
 sumAt s l = wrenchSum (getD (s .sums) (l .link) noWrench) (l .wrench)
@@ -50,6 +54,13 @@ before (suc n) s = record { number = suc n; sums = startSums .sums }
 -- "10; loads in turn"
 unfoldable pub preparedSums : ℕ → ℕ → List Load → LoadSums
 preparedSums id links ls = before (amountNumber (amount (length ls))) (loadSums id links ls)
+
+-- where a walk over a lent table of so many loads starts, and how many it takes: none after the refusal 10
+abbrev pub walkStart : ℕ → LoadSums
+walkStart n = before (amountNumber (amount n)) startSums
+
+abbrev pub walkCount : ℕ → ℕ
+walkCount n = accepted (amountNumber (amount n)) n 0
 
 -- the wrench at place i of a table of six numbers each: torque, then force
 unfoldable pub wrenchAt : List Float → ℕ → Wrench

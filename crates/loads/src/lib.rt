@@ -2,6 +2,7 @@
 pub mod agree;
 pub mod buffer;
 pub mod checks;
+pub mod lent;
 pub mod sums;
 
 use spatial::Wrench;

@@ -1,8 +1,8 @@
 // Load sums.
 ghost use mathlib.Core.Path.{_≡_};
-ghost use Prim.Native.Nat.{_+_, _*_, _≤_};
-ghost use lib.ListN.{length};
-ghost use Rattle.loads.specs.Sums.{startSums, sumStep, wrenchAt, flatSums};
+ghost use Prim.Native.Nat.{_+_, _*_, _<_, _≤_};
+ghost use lib.ListN.{length, getD};
+ghost use Rattle.loads.specs.Sums.{noLoad, startSums, sumStep, preparedSums, walkStart, walkCount, wrenchAt, flatSums};
 use crate::Amount;
 use crate::Finiteness;
 use crate::Length;
@@ -79,6 +79,14 @@ fn wrench_at(numbers: &[f64], i: usize) -> Wrench
     }
 }
 
+// A load of a lent table, copied out.
+fn load_at(loads: &[Load], i: usize) -> Load
+    requires { ⌜ i < length (now loads) ⌝ }
+    ensures { λ r. ⌜ r ≡ getD (now (loads .entry)) i noLoad ⌝ }
+{
+    loads[i]
+}
+
 // The sums of a table in three parts, six numbers a load.
 pub fn prepare_indexed_loads<'a>(
     id: u64,
@@ -113,6 +121,43 @@ pub fn prepare_indexed_loads<'a>(
         };
         s.sums[link] = sum;
         i += 1;
+    }
+    s
+}
+
+// Nothing refused yet, or the refusal 10, for so many loads.
+fn walk_start(len: usize) -> LoadSums
+    ensures { λ r. ⌜ r ≡ walkStart len ⌝ }
+{
+    let s = start();
+    let Amount::Few = check_amount(len) else {
+        return refused(s, 10);
+    };
+    s
+}
+
+// How many of so many loads are looked at.
+fn walk_count(len: usize) -> usize
+    ensures { λ r. ⌜ (r ≡ walkCount len) × (r ≤ len) ⌝ }
+{
+    let Amount::Few = check_amount(len) else {
+        return 0;
+    };
+    len
+}
+
+// The sums of a lent table of loads, walked once.
+pub fn sum_loads(loads: &[Load], id: u64, links: usize) -> LoadSums
+    ensures { λ r. ⌜ r ≡ preparedSums id links (now (loads .entry)) ⌝ }
+{
+    let len = loads.len();
+    let n = walk_count(len);
+    let mut s = walk_start(len);
+    let mut k = 0;
+    while k < n {
+        let load = load_at(loads, k);
+        s = step(s, id, links, load);
+        k += 1;
     }
     s
 }

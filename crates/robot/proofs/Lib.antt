@@ -4,6 +4,8 @@ pub mod OutputLaws
 pub mod PositionLaws
 pub mod PassedLaws
 pub mod OutcomeLaws
+pub mod TurnLaws
 pub mod FigureLaws
+pub mod Exactly
 pub mod Unique
 pub mod Worked

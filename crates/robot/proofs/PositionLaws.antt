@@ -57,6 +57,19 @@ first-at f (suc n) k e l =
     let m : k ≤ n = omega arith in
     ⊎-elim (λ q. ap f q ∙ good-next (first n f) (f n) e) (λ q. first-at f n k (good-first (first n f) (f n) e) q) (eq-or-lt-of-le m)
 
+-- the joint that holds a number gives its kind
+kind-found : (t : Numbering) (kind : ℕ → JointType) (n i : ℕ) → holds t n i ≡ true → ((k : ℕ) → k < t .count → holds t n k ≡ true → k ≡ i) → (j : ℕ) → i < j → j ≤ t .count → kindOfNumber t kind j n ≡ kind i
+unfolding kindOfNumber
+kind-found t kind n i h once zero l m = absurd (omega arith)
+kind-found t kind n i h once (suc j) l m =
+    ⊎-elim
+    (λ e. rw e (ap kind (once j (omega arith) e)))
+    (λ e. rw e (kind-found t kind n i h once j (let d : (i ≡ j → ⊥) = (λ q. false≢true (sym e ∙ ap (holds t n) (sym q) ∙ h)) in omega arith) (omega arith)))
+    (by-bool (holds t n j))
+
+pub kind-held : (t : Numbering) (kind : ℕ → JointType) → Numbered t → (n i : ℕ) → Holds t n i → kindOfNumber t kind (t .count) n ≡ kind i
+kind-held t kind g n i h = kind-found t kind n i (said t n i h) (λ k l q. g .once n k i (told t n k l q) h) (t .count) (h .inside) (omega arith)
+
 -- ---- positions that pass
 
 module _ (t : Numbering) (kind : ℕ → JointType) (ps : List Pose) (count : ℕ) (good : positionsChecked t kind ps count ≡ Good) where
@@ -71,20 +84,10 @@ module _ (t : Numbering) (kind : ℕ → JointType) (ps : List Pose) (count : �
       (good-next (unless (allFinite (poseNumbers (getD ps n noPose))) NonFiniteInput) _
       (first-at (λ i. poseChecked (kindOfNumber t kind (t .count) i) (getD ps i noPose)) (t .moving) n (good-next (unless (eqb count (t .moving)) WrongLength) _ good) l))
 
-  -- the joint that holds a number gives its kind
-  kind-found : (n i : ℕ) → holds t n i ≡ true → ((k : ℕ) → k < t .count → holds t n k ≡ true → k ≡ i) → (j : ℕ) → i < j → j ≤ t .count → kindOfNumber t kind j n ≡ kind i
-  unfolding kindOfNumber
-  kind-found n i h once zero l m = absurd (omega arith)
-  kind-found n i h once (suc j) l m =
-      ⊎-elim
-      (λ e. rw e (ap kind (once j (omega arith) e)))
-      (λ e. rw e (kind-found n i h once j (let d : (i ≡ j → ⊥) = (λ q. false≢true (sym e ∙ ap (holds t n) (sym q) ∙ h)) in omega arith) (omega arith)))
-      (by-bool (holds t n j))
-
   module _ (g : Numbered t) where
     fits-holder : (n i : ℕ) → Holds t n i → poseFits (kind i) (getD ps n noPose) ≡ true
     fits-holder n i h =
-        ap (λ (k : JointType). poseFits k (getD ps n noPose)) (sym (kind-found n i (said t n i h) (λ k l q. g .once n k i (told t n k l q) h) (t .count) (h .inside) (omega arith)))
+        ap (λ (k : JointType). poseFits k (getD ps n noPose)) (sym (kind-held t kind g n i h))
         ∙ fitting n (g .below n i h)
 
     -- so a moving joint's pose is the same from the table as from the list

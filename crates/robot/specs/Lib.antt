@@ -4,3 +4,4 @@ pub mod Refusal
 pub mod Figures
 pub mod Outcome
 pub mod Solved
+pub mod When

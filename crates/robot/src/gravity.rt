@@ -1,6 +1,7 @@
 // Gravity, fixed and floating.
 ghost use mathlib.Core.List.{[]};
 ghost use mathlib.Core.Path.{_≡_};
+ghost use Rattle.loads.specs.Sums.{flatSums, preparedSums};
 ghost use Rattle.robot.specs.Call.{callOf};
 ghost use Rattle.robot.specs.Outcome.{outcome, told};
 use crate::Function;
@@ -10,7 +11,10 @@ use crate::poses::pose_table;
 use crate::roots::check_figures;
 use crate::solve::solve_gravity;
 use dynamics::weights::turned;
+use loads::Load;
 use loads::LoadSums;
+use loads::sums::prepare_indexed_loads;
+use loads::sums::sum_loads;
 use model::BaseState;
 use model::Checked;
 use model::Model;
@@ -20,7 +24,7 @@ use model::number_of;
 use spatial::constants::standard_gravity;
 
 // Every call is answered: a refusal's number with the output as found, or the figures.
-pub fn gravity(
+pub fn gravity_core(
     mode: RootMode,
     model: Model,
     base: BaseState,
@@ -75,4 +79,38 @@ pub fn gravity(
         output,
     );
     check_figures(output)
+}
+
+// The same over a lent table of loads in three parts, six numbers a load.
+pub fn gravity_flat<'a>(
+    mode: RootMode,
+    model: Model,
+    base: BaseState,
+    positions: [Pose; 63],
+    entries: usize,
+    ids: &'a [u64],
+    links: &'a [usize],
+    numbers: &'a [f64],
+    output: &mut [f64],
+) -> u8
+    ensures { λ r. ⌜ told r (now (output .exit)) ≡ outcome (callOf Function.Gravity mode model base positions entries [] [] (flatSums (model .id) (model .count) (now (ids .entry)) (now (links .entry)) (now (numbers .entry)))) (now (output .entry)) ⌝ }
+{
+    let sums = prepare_indexed_loads(model.id, model.count, ids, links, numbers);
+    gravity_core(mode, model, base, positions, entries, sums, output)
+}
+
+// The same over a lent table of loads.
+pub fn gravity(
+    mode: RootMode,
+    model: Model,
+    base: BaseState,
+    positions: [Pose; 63],
+    entries: usize,
+    loads: &[Load],
+    output: &mut [f64],
+) -> u8
+    ensures { λ r. ⌜ told r (now (output .exit)) ≡ outcome (callOf Function.Gravity mode model base positions entries [] [] (preparedSums (model .id) (model .count) (now (loads .entry)))) (now (output .entry)) ⌝ }
+{
+    let sums = sum_loads(loads, model.id, model.count);
+    gravity_core(mode, model, base, positions, entries, sums, output)
 }

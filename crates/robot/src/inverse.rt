@@ -1,5 +1,6 @@
 // Inverse dynamics, fixed and floating.
 ghost use mathlib.Core.Path.{_≡_};
+ghost use Rattle.loads.specs.Sums.{flatSums, preparedSums};
 ghost use Rattle.robot.specs.Call.{callOf};
 ghost use Rattle.robot.specs.Outcome.{outcome, told};
 use crate::Function;
@@ -9,7 +10,10 @@ use crate::poses::pose_table;
 use crate::roots::check_figures;
 use crate::roots::inverse_root;
 use crate::solve::solve_inverse;
+use loads::Load;
 use loads::LoadSums;
+use loads::sums::prepare_indexed_loads;
+use loads::sums::sum_loads;
 use model::BaseState;
 use model::Checked;
 use model::Model;
@@ -19,7 +23,7 @@ use model::lists::check_list;
 use model::number_of;
 
 // Every call is answered: a refusal's number with the output as found, or the figures.
-pub fn inverse_dynamics<'a>(
+pub fn inverse_dynamics_core<'a>(
     mode: RootMode,
     model: Model,
     base: BaseState,
@@ -86,4 +90,62 @@ pub fn inverse_dynamics<'a>(
         output,
     );
     check_figures(output)
+}
+
+// The same over a lent table of loads in three parts, six numbers a load.
+pub fn inverse_dynamics_flat<'a>(
+    mode: RootMode,
+    model: Model,
+    base: BaseState,
+    positions: [Pose; 63],
+    entries: usize,
+    speeds: &'a [f64],
+    accelerations: &'a [f64],
+    ids: &'a [u64],
+    links: &'a [usize],
+    numbers: &'a [f64],
+    output: &mut [f64],
+) -> u8
+    ensures { λ r. ⌜ told r (now (output .exit)) ≡ outcome (callOf Function.InverseDynamics mode model base positions entries (now (speeds .entry)) (now (accelerations .entry)) (flatSums (model .id) (model .count) (now (ids .entry)) (now (links .entry)) (now (numbers .entry)))) (now (output .entry)) ⌝ }
+{
+    let sums = prepare_indexed_loads(model.id, model.count, ids, links, numbers);
+    inverse_dynamics_core(
+        mode,
+        model,
+        base,
+        positions,
+        entries,
+        speeds,
+        accelerations,
+        sums,
+        output,
+    )
+}
+
+// The same over a lent table of loads.
+pub fn inverse_dynamics<'a>(
+    mode: RootMode,
+    model: Model,
+    base: BaseState,
+    positions: [Pose; 63],
+    entries: usize,
+    speeds: &'a [f64],
+    accelerations: &'a [f64],
+    loads: &[Load],
+    output: &mut [f64],
+) -> u8
+    ensures { λ r. ⌜ told r (now (output .exit)) ≡ outcome (callOf Function.InverseDynamics mode model base positions entries (now (speeds .entry)) (now (accelerations .entry)) (preparedSums (model .id) (model .count) (now (loads .entry)))) (now (output .entry)) ⌝ }
+{
+    let sums = sum_loads(loads, model.id, model.count);
+    inverse_dynamics_core(
+        mode,
+        model,
+        base,
+        positions,
+        entries,
+        speeds,
+        accelerations,
+        sums,
+        output,
+    )
 }

@@ -1,4 +1,5 @@
 pub mod All
+pub mod Listed
 pub mod Float
 pub mod Constants
 pub mod Past

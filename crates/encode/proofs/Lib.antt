@@ -1,0 +1,17 @@
+pub mod PartLaws
+pub mod JoinedLaws
+pub mod SizeLaws
+pub mod SentLaws
+pub mod WritableLaws
+pub mod CallSizes
+pub mod HeadLaws
+pub mod ListsLaws
+pub mod ReadLaws
+pub mod ModelTrip
+pub mod PartTrips
+pub mod HeadTrip
+pub mod ListTrip
+pub mod CallTrip
+pub mod RoundTrips
+pub mod GoodWritable
+pub mod Worked

@@ -1,0 +1,5 @@
+pub mod Joined
+pub mod Models
+pub mod Calls
+pub mod Written
+pub mod Kept

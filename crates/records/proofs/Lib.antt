@@ -1,0 +1,4 @@
+pub mod LaidLaws
+pub mod ListLaws
+pub mod SentLaws
+pub mod CallLaws

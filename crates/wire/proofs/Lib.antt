@@ -1,0 +1,5 @@
+pub mod Nan
+pub mod PlacedLaws
+pub mod FillLaws
+pub mod BytesLaws
+pub mod StandsLaws

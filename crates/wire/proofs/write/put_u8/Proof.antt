@@ -1,0 +1,17 @@
+use Rattle.wire.specs.Placed.{placed}
+use borrow.Author.Needs.{needs}
+use Rattle.wire.proofs.write.put_u8.Statement.{statement}
+use Rattle.wire.proofs.write.put_u8.Tie as tie
+
+slice-write-out : tie.Need-slice-write-out
+slice-write-out c = search needs
+
+same-length : tie.Need-same-length
+same-length c = search needs
+
+returns : tie.Need-returns
+unfolding placed
+returns c = search needs
+
+pub put-u8-spec : {M : Type 1} → statement M
+put-u8-spec = tie.close (tie.spec slice-write-out same-length returns)

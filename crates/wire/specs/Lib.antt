@@ -1,0 +1,3 @@
+pub mod Big
+pub mod Placed
+pub mod Fill

@@ -1,0 +1,3 @@
+// Big-endian numbers in tables of bytes.
+pub mod read;
+pub mod write;
