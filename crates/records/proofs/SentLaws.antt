@@ -1,9 +1,11 @@
 -- What is sent: all bytes where they fit, and else none.
 use Prim.Native.Nat.{ℕ, _+_, _*_, _<_, _≤_}
 use mathlib.Core.Path.{_≡_, refl, ap, _∙_}
-use mathlib.Core.List.{List, [], _++_}
+use mathlib.Core.Bool.{Bool, true, false}
+use mathlib.Core.List.{List}
 use native.Mathlib.Omega.{arith}
-use lib.ListN.{length, length-append}
+use lib.Dec.{leb}
+use lib.ListN.{length, drop, length-append}
 use lib.Ieee.{Float}
 use borrow.Author.Tests.{le-leb, lt-leb}
 use Rattle.wire.specs.Big.{bytes16, bytes32, floatBytes}
@@ -40,3 +42,15 @@ pub sent-answer : (number : ℕ) (figures : List Float) (out mid after : List �
 unfolding answerBytes
 sent-answer number figures out mid after h p q =
     sent-all _ out after _ (length-answer number figures) h (placed-then out mid after 0 9 _ _ p q (omega (arith, length-head number (length figures))))
+
+-- what was sent stands at the front of the table
+counted : (b : Bool) (bytes out : List ℕ) → leb (length bytes) (length out) ≡ b → sent bytes out .count ≤ length (sent bytes out .out)
+unfolding sent
+counted true bytes out e = rw e (omega (arith, length-append bytes (drop (length bytes) out)))
+counted false bytes out e = rw e (omega arith)
+
+pub sent-counts : (bytes out after : List ℕ) (n : ℕ) → _≡_ {A = Sent} (record { count = n; out = after }) (sent bytes out) → n ≤ length after
+sent-counts bytes out after n e =
+    let p : n ≡ sent bytes out .count = ap (λ (t : Sent). t .count) e in
+    let q : after ≡ sent bytes out .out = ap (λ (t : Sent). t .out) e in
+    rw (p, q) (counted (leb (length bytes) (length out)) bytes out refl)
