@@ -2,3 +2,4 @@ pub mod LaidLaws
 pub mod ListLaws
 pub mod SentLaws
 pub mod CallLaws
+pub mod Worked
