@@ -1,7 +1,6 @@
 // Replays a script of buffer operations and counts the answers that agree with the oracle's.
 ghost use Prim.Native.Nat.{_<_, _≤_};
-ghost use Rattle.io.specs.Counts.{Counts};
-use libc::STDIN_FILENO;
+use frames::read_frame;
 use libc::STDOUT_FILENO;
 use loads::Changed;
 use loads::Load;
@@ -15,6 +14,7 @@ use loads::buffer::remove;
 use loads::buffer::set;
 use spatial::Vector3;
 use spatial::Wrench;
+use wire::read::double;
 
 // The buffer after an operation, and whether the answer is the oracle's.
 struct Played {
@@ -58,14 +58,6 @@ fn u64_at(s: &[u8], at: usize) -> u64
     requires { ⌜ at < 65530 ⌝ }
 {
     u32_at(s, at) * 4294967296 + u32_at(s, at + 4)
-}
-
-// The double of a bit pattern; every NaN pattern gives a NaN.
-fn double(bits: u64) -> f64 {
-    if bits % 9223372036854775808 > 9218868437227405312 {
-        return 0.0 / 0.0;
-    }
-    f64::from_bits(bits)
 }
 
 fn vector_at(s: &[u8], at: usize) -> Vector3
@@ -213,26 +205,6 @@ fn turn(b: LoadBuffer, operation: &[u8], answer: &[u8]) -> Played {
     Played { buffer: next, same }
 }
 
-// Reads one frame: its length, or 0 where there is none or it is too long.
-fn read_frame(body: &mut [u8]) -> usize
-    ensures { λ r. ⌜ Counts r (now (body .exit)) ⌝ }
-{
-    let mut head = [0u8; 4];
-    let got = io::read_full(STDIN_FILENO, &mut head);
-    if got < 4 {
-        return 0;
-    }
-    let n = u32_at(&head, 0) as usize;
-    if body.len() < n {
-        return 0;
-    }
-    let read = io::read_full(STDIN_FILENO, &mut body[..n]);
-    if body.len() < read {
-        return 0;
-    }
-    read
-}
-
 // The whole script, at most a million operations.
 fn replay() -> Tally {
     let first = new(0, 1);
@@ -242,11 +214,13 @@ fn replay() -> Tally {
     let mut same = 0;
     let mut run = 0;
     while run < 1000000 {
-        let k = read_frame(&mut operation);
-        if k == 0 {
+        let frame = read_frame(&mut operation);
+        if !frame.found {
             return Tally { run, same };
         }
-        let n = read_frame(&mut answer);
+        let told = read_frame(&mut answer);
+        let k = frame.length;
+        let n = told.length;
         let t = turn(b, &operation[..k], &answer[..n]);
         b = t.buffer;
         same += bit(t.same);

@@ -1,7 +1,6 @@
 // Replays calls of the three functions and counts the answers that agree with the oracle's.
 ghost use Prim.Native.Nat.{_<_, _≤_};
-ghost use Rattle.io.specs.Counts.{Counts};
-use libc::STDIN_FILENO;
+use frames::read_frame;
 use libc::STDOUT_FILENO;
 use model::BaseState;
 use model::Model;
@@ -14,6 +13,7 @@ use spatial::Frame;
 use spatial::Quaternion;
 use spatial::Twist;
 use spatial::Vector3;
+use wire::read::double;
 
 // A byte of a frame, 0 past its end.
 fn byte_at(s: &[u8], at: usize) -> u64
@@ -63,14 +63,6 @@ fn u64_in(s: &[u8], at: usize) -> u64
 // The number at a place, so many bytes on.
 fn u64_at(s: &[u8], at: usize, more: usize) -> u64 {
     u64_in(s, after(at, more))
-}
-
-// The double of a bit pattern; every NaN pattern gives a NaN.
-fn double(bits: u64) -> f64 {
-    if bits % 9223372036854775808 > 9218868437227405312 {
-        return 0.0 / 0.0;
-    }
-    f64::from_bits(bits)
 }
 
 fn f64_at(s: &[u8], at: usize, more: usize) -> f64 {
@@ -487,26 +479,6 @@ fn turn<'a>(s: &'a [u8], answer: &'a [u8]) -> bool {
     )
 }
 
-// Reads one frame: its length, or 0 where there is none or it is too long.
-fn read_frame(body: &mut [u8]) -> usize
-    ensures { λ r. ⌜ Counts r (now (body .exit)) ⌝ }
-{
-    let mut head = [0u8; 4];
-    let got = io::read_full(STDIN_FILENO, &mut head);
-    if got < 4 {
-        return 0;
-    }
-    let n = u32_at(&head, 0) as usize;
-    if body.len() < n {
-        return 0;
-    }
-    let read = io::read_full(STDIN_FILENO, &mut body[..n]);
-    if body.len() < read {
-        return 0;
-    }
-    read
-}
-
 // How many cases there were, and how many answers agreed.
 struct Tally {
     run: u64,
@@ -520,11 +492,13 @@ fn replay() -> Tally {
     let mut same = 0;
     let mut run = 0;
     while run < 1000000 {
-        let k = read_frame(&mut case);
-        if k == 0 {
+        let frame = read_frame(&mut case);
+        if !frame.found {
             return Tally { run, same };
         }
-        let n = read_frame(&mut answer);
+        let told = read_frame(&mut answer);
+        let k = frame.length;
+        let n = told.length;
         same += bit(turn(&case[..k], &answer[..n]));
         run += 1;
     }

@@ -1,0 +1,1 @@
+"""The parts of the mechanic's command."""
