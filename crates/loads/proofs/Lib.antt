@@ -2,6 +2,8 @@ pub mod CountLaws
 pub mod CheckLaws
 pub mod SumLaws
 pub mod When
+pub mod LinkSums
+pub mod Unique
 pub mod AgreeLaws
 pub mod ZeroLaws
 pub mod Decided

@@ -14,6 +14,7 @@ use Rattle.loads.specs.declared.Load.{Load}
 use Rattle.loads.specs.declared.LoadSums.{LoadSums}
 use Rattle.loads.specs.declared.LinkId.the-variants.{Known, Unknown}
 use Rattle.loads.specs.declared.Finiteness.the-variants.{Finite, NonFinite}
+use Rattle.loads.specs.declared.Length.{Length}
 use Rattle.loads.specs.declared.Length.the-variants.{Right, Wrong}
 use Rattle.loads.specs.declared.Amount.the-variants.{Few, Many}
 use Rattle.loads.specs.Checks.{linkId, finiteness, tableLength, amount}
@@ -103,6 +104,15 @@ module _ (id count : ℕ) (ids links : List ℕ) (ws : List Float) where
     pub flat-swept : amount (length ids) ≡ Few → flatSums id count ids links ws ≡ swept (length ids)
     unfolding flatSums preparedSums loadSums
     flat-swept m = simp (h, table-length, m)
+
+  -- an accepted table's sums are those of the loads that it means
+  pub flat-prepared : flatSums id count ids links ws .number ≡ 0 → flatSums id count ids links ws ≡ preparedSums id count (tableLoads ids links ws (length ids))
+  unfolding flatSums
+  flat-prepared e = go (tableLength (length ids) (length links) (length ws)) refl
+    where
+      go : (a : Length) → tableLength (length ids) (length links) (length ws) ≡ a → flatSums id count ids links ws ≡ preparedSums id count (tableLoads ids links ws (length ids))
+      go Right h = rw h
+      go Wrong h = absurd (let q = rw h at e in omega arith)
 
 -- ---- a walk over a lent table
 

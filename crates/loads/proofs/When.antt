@@ -89,7 +89,7 @@ module _ (id links : ℕ) where
     before : after s (take at ls) .number ≡ 0
     refuses : next (after s (take at ls)) (loadIn ls at) ≡ n
 
-  stays : (k : ℕ) (ls : List Load) (s : LoadSums) → s .number ≡ suc k → after s ls .number ≡ suc k
+  pub stays : (k : ℕ) (ls : List Load) (s : LoadSums) → s .number ≡ suc k → after s ls .number ≡ suc k
   unfolding sumFrom
   stays k [] s e = e
   stays k (l ∷ ls) s e = stays k ls (sumStep id links s l) (rw (step-kept id links s l (λ z. omega arith)) e)

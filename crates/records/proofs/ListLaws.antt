@@ -4,21 +4,17 @@ use mathlib.Core.Path.{_≡_, refl, ap, sym, _∙_}
 use mathlib.Core.List.{List, [], _∷_, _++_}
 use native.Mathlib.Numerals.{add-one}
 use native.Mathlib.Omega.{arith}
-use lib.ListN.{length, take, replicate, length-append, length-set, length-replicate}
+use lib.ListN.{length, take, replicate, length-set, length-replicate}
 use lib.Seq.{take-suc-set, length-take-le}
 use borrow.Author.Tests.{le-leb}
 use Rattle.spatial.specs.Listed.{listOf}
+use Rattle.spatial.proofs.ListedLaws.{length-listOf}
 use Rattle.wire.specs.Fill.{fill}
-use Rattle.loads.specs.Checks.{amount, amountNumber}
+use Rattle.loads.specs.Checks.{amount}
 use Rattle.loads.specs.Sums.{startSums, sumStep, sumFrom, loadSums, preparedSums}
 use Rattle.loads.specs.declared.Load.{Load}
 use Rattle.loads.specs.declared.LoadSums.{LoadSums}
 use Rattle.loads.proofs.SumLaws.{sum-append}
-
-length-listed : {A : Type 0} (n : ℕ) (f : ℕ → A) → length (listOf n f) ≡ n
-unfolding listOf
-length-listed zero f = refl
-length-listed (suc n) f = length-append (listOf n f) (f n ∷ []) ∙ omega (arith, length-listed n f)
 
 length-fill : {A : Type 0} (f : ℕ → A) (base : List A) (n : ℕ) → length (fill f base n) ≡ length base
 unfolding fill
@@ -52,4 +48,4 @@ sums-turn id links n f s t l e h q = q ∙ rw (add-one, e, h) (sym (sum-append i
 
 pub sums-end : (id links n k : ℕ) (f : ℕ → Load) (s : LoadSums) → s ≡ loadSums id links (listOf n f) → n ≡ k → k ≤ 256 → s ≡ preparedSums id links (listOf k f)
 unfolding preparedSums amount
-sums-end id links n k f s e h few = e ∙ rw (h, length-listed k f, le-leb k 256 few) refl
+sums-end id links n k f s e h few = e ∙ rw (h, length-listOf k f, le-leb k 256 few) refl

@@ -33,11 +33,12 @@ use Rattle.dynamics.specs.Weights.{gravityWrench}
 use Rattle.dynamics.specs.Run.{frameOf}
 use Rattle.dynamics.specs.Figures.{figure, figureOf, rootOf}
 use Rattle.robot.specs.Refusal.{startChecked, refusal}
-use Rattle.robot.specs.Figures.{listOf, figures}
+use Rattle.spatial.specs.Listed.{listOf}
+use Rattle.robot.specs.Figures.{figures}
 use Rattle.robot.specs.Outcome.{outcome}
+use Rattle.robot.proofs.Worked as Outcomes
 use Rattle.wire.specs.Big.{be16, be32, be64, f64At, bytes16, bytes32, bytes64, floatBytes}
 use Rattle.wire.specs.Fill.{fill}
-use Rattle.spatial.specs.Listed as Listed
 use Rattle.dynamics.specs.Weights as Weights
 use Rattle.records.specs.Layout.{headed, jointLaid, poseLaid, counted, modelLaid, callLaid, laid}
 use Rattle.records.specs.Models.{linkFloat, jointFloat, modelIn}
@@ -75,5 +76,9 @@ pub record Table : Type 0 where
   pub w9 : reply [] ≡ 0 ∷ 0 ∷ 0 ∷ 5 ∷ 1 ∷ 3 ∷ 9 ∷ 0 ∷ 0 ∷ []
 
 pub worked-bytes : Table
-unfolding reply answerTo answerBytes headBytes laid headed jointLaid poseLaid counted modelLaid callLaid modelIn linkFloat jointFloat callIn callWith functionOf modeOf vectorIn twistIn frameIn baseIn poseIn positionsIn loadIn fill be16 be32 be64 f64At bytes16 bytes32 bytes64 floatBytes Listed.listOf ofBits toBits outcome refusal startChecked figures listOf goodBase goodModel countsFit numbered numberedAt taken holderOf goodJoint fits axisFits goodLink weighs positionsChecked poseChecked first kindOfNumber listChecked all allFinite isFinite unitPair unitQuaternion unitVector isUnit vectorSum scaled crossed dotted inverted multiplied rotated matrixOf transformed wrenchSum wrenchToParent standardGravity zeroVector zeroTwist zeroWrench le add sub mul neg climb valueAt total totalOf rootSum linkAt frameAt vectorAt kindOf pasted blankModel withLink withJoint linkId finiteness amount startSums sumStep sumFrom loadSums preparedSums valueIn halfTurn jointFrame rootMotion accelerationAt carried turning sliding driven moved inertialWrench Weights.turned gravityWrench frameOf figure figureOf rootOf
+unfolding reply answerTo answerBytes headBytes laid headed jointLaid poseLaid counted modelLaid callLaid modelIn linkFloat jointFloat callIn callWith functionOf modeOf vectorIn twistIn frameIn baseIn poseIn positionsIn loadIn fill be16 be32 be64 f64At bytes16 bytes32 bytes64 floatBytes ofBits toBits outcome refusal startChecked figures listOf goodBase goodModel countsFit numbered numberedAt taken holderOf goodJoint fits axisFits goodLink weighs positionsChecked poseChecked first kindOfNumber listChecked all allFinite isFinite unitPair unitQuaternion unitVector isUnit vectorSum scaled crossed dotted inverted multiplied rotated matrixOf transformed wrenchSum wrenchToParent standardGravity zeroVector zeroTwist zeroWrench le add sub mul neg climb valueAt total totalOf rootSum linkAt frameAt vectorAt kindOf pasted blankModel withLink withJoint linkId finiteness amount startSums sumStep sumFrom loadSums preparedSums valueIn halfTurn jointFrame rootMotion accelerationAt carried turning sliding driven moved inertialWrench Weights.turned gravityWrench frameOf figure figureOf rootOf
 worked-bytes = record { w1 = refl; w8 = refl; w9 = refl }
+
+-- W1 to W9 together
+pub worked-nine : Outcomes.Table × Table
+worked-nine = (Outcomes.worked-table, worked-bytes)

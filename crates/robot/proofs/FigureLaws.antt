@@ -39,7 +39,8 @@ use Rattle.dynamics.specs.declared.Motion.{Motion}
 use Rattle.robot.specs.declared.Function.the-variants.{InverseDynamics, Gravity, VelocityProduct}
 use Rattle.robot.specs.Call.{Call, callOf}
 use Rattle.robot.specs.Table.{Tabled, noAccelerations}
-use Rattle.robot.specs.Figures.{loaded, still, inMode, listOf, rootFigures, figures}
+use Rattle.spatial.specs.Listed.{listOf}
+use Rattle.robot.specs.Figures.{loaded, still, inMode, rootFigures, figures}
 use Rattle.robot.specs.Solved.{solvedList}
 use Rattle.robot.proofs.PositionLaws.{pose-same}
 use Rattle.robot.proofs.OutputLaws.{fit-good}

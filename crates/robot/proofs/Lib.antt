@@ -8,4 +8,9 @@ pub mod TurnLaws
 pub mod FigureLaws
 pub mod Exactly
 pub mod Unique
+pub mod AcceptedLaws
+pub mod Demand3
+pub mod Stays
+pub mod Hose
 pub mod Worked
+pub mod Needed

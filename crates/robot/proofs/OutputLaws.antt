@@ -1,16 +1,16 @@
 -- What a kernel writes, as the list that the definition gives.
 use Prim.Native.Nat.{ℕ, zero, suc, _+_, _*_, _<_, _≤_}
 use mathlib.Core.List.{List, [], _∷_, _++_}
-use mathlib.Core.Path.{_≡_, refl, sym, ap, _∙_}
+use mathlib.Core.Path.{_≡_, sym, ap, _∙_}
 use native.Mathlib.Nat.{eq-or-lt-of-le}
 use native.Mathlib.Omega.{arith}
 use mathlib.Core.Logic.{⊎-elim}
-use lib.ListN.{length, getD, take, drop, length-append, length-drop, List·getD-append, take-append-drop}
+use lib.ListN.{length, getD, take, drop, length-drop, List·getD-append, take-append-drop}
 use lib.Seq.{ext-getD, getD-append-add}
 use lib.Ieee.{Float, nan}
 use Rattle.spatial.specs.declared.Wrench.{Wrench}
 use Rattle.tree.specs.Tree.{Kernel}
-use Rattle.model.specs.Numbers.{Numbering, Numbered, Holds, holderOf}
+use Rattle.model.specs.Numbers.{Numbering, Numbered, holderOf}
 use Rattle.model.specs.View.{moves}
 use Rattle.model.proofs.NumberedLaws.{holder-holds}
 use Rattle.dynamics.specs.Run.{Run, jointCount}
@@ -23,15 +23,11 @@ use Rattle.model.specs.Flat.{Tables, Sized, viewOf}
 use Rattle.model.specs.Good.{GoodModel}
 use Rattle.model.specs.declared.RootMode.the-variants.{Fixed, Floating as FloatingMode}
 use Rattle.model.proofs.GoodLaws.{parent-first, number-below, number-apart}
-use Rattle.robot.specs.Figures.{listOf}
+use Rattle.spatial.specs.Listed.{listOf}
+use Rattle.spatial.proofs.ListedLaws.{length-listOf}
 use Rattle.robot.specs.Solved.{solvedList}
 
-pub length-listOf : (n : ℕ) (f : ℕ → Float) → length (listOf n f) ≡ n
-unfolding listOf
-length-listOf zero f = refl
-length-listOf (suc n) f = length-append (listOf n f) (f n ∷ []) ∙ (let e : length (listOf n f) ≡ n = length-listOf n f in omega arith)
-
-getD-listOf : (n : ℕ) (f : ℕ → Float) (i : ℕ) → i < n → getD (listOf n f) i nan ≡ f i
+pub getD-listOf : (n : ℕ) (f : ℕ → Float) (i : ℕ) → i < n → getD (listOf n f) i nan ≡ f i
 unfolding listOf
 getD-listOf zero f i l = absurd (omega arith)
 getD-listOf (suc n) f i l =

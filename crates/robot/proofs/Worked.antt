@@ -46,15 +46,16 @@ use Rattle.robot.specs.declared.Function.{Function}
 use Rattle.robot.specs.declared.Function.the-variants.{Gravity, VelocityProduct}
 use Rattle.robot.specs.Call.{callOf}
 use Rattle.robot.specs.Refusal.{startChecked, refusal}
-use Rattle.robot.specs.Figures.{listOf, figures}
+use Rattle.spatial.specs.Listed.{listOf}
+use Rattle.robot.specs.Figures.{figures}
 use Rattle.robot.specs.Outcome.{Outcome, told, outcome}
 
-abbrev base : BaseState
+abbrev pub base : BaseState
 base =
     let still : Twist = record { angular = zero₃; linear = zero₃ } in
     record { frame = record { rotation = turned one; translation = zero₃ }; velocity = still; acceleration = still }
 
-abbrev load : ℕ → Vector3 → Vector3 → Load
+abbrev pub load : ℕ → Vector3 → Vector3 → Load
 load link torque force = record { id = 0; link = link; wrench = record { torque = torque; force = force } }
 
 -- fixed mode, identity base, these positions and loads, and an output that held only NaN
@@ -62,7 +63,7 @@ abbrev call : Function → Model → List Pose → List Float → List Load → 
 call function model positions speeds loads =
     outcome (callOf function Fixed model base positions (model .moving) speeds [] (preparedSums 0 (model .count) loads)) (replicate (model .moving) nan)
 
-abbrev half : Pose
+abbrev pub half : Pose
 half = Half plusZero one
 
 -- 2 times 9.80665, its negative, and 10 less it, rounded once

@@ -1,11 +1,12 @@
 -- The figures of a call: "Output holds m joint figures by joint number; floating output has six root figures first (torque, force, in
 -- world axes at the root origin)".
-use Prim.Native.Nat.{ℕ, zero, suc}
-use mathlib.Core.List.{List, [], _∷_, _++_}
+use Prim.Native.Nat.{ℕ}
+use mathlib.Core.List.{List, [], _++_}
 use lib.ListN.{getD}
 use lib.Ieee.{Float}
 use Rattle.spatial.specs.Constants.{plusZero, standardGravity, zeroVector, zeroTwist, zeroWrench}
 use Rattle.spatial.specs.Finite.{wrenchNumbers}
+use Rattle.spatial.specs.Listed.{listOf}
 use Rattle.spatial.specs.Past.{noWrench}
 use Rattle.spatial.specs.Wrenches.{worldWrench}
 use Rattle.spatial.specs.declared.Quaternion.{Quaternion}
@@ -71,11 +72,6 @@ solved c Gravity = solvedBy (loaded c) (gravityOf (loaded c) (turned (c .base .f
 solved c VelocityProduct =
     let root = rootMotion (c .base .frame .rotation) (inMode (c .mode) (c .base .velocity)) zeroTwist zeroVector in
     solvedBy (still c) (inverseOf (still c) root)
-
--- f 0, f 1, .. , n figures
-unfoldable pub listOf : ℕ → (ℕ → Float) → List Float
-listOf zero f = []
-listOf (suc n) f = listOf n f ++ (f n ∷ [])
 
 -- "both halves are turned by the base rotation"
 abbrev pub rootFigures : RootMode → Quaternion → Wrench → List Float

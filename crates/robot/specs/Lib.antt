@@ -5,3 +5,4 @@ pub mod Figures
 pub mod Outcome
 pub mod Solved
 pub mod When
+pub mod Same

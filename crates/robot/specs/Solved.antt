@@ -11,7 +11,8 @@ use Rattle.model.specs.View.{numberingOf}
 use Rattle.model.specs.declared.RootMode.{RootMode}
 use Rattle.dynamics.specs.Run.{Run}
 use Rattle.dynamics.specs.Figures.{figureOf, rootOf}
-use Rattle.robot.specs.Figures.{rootFigures, listOf}
+use Rattle.spatial.specs.Listed.{listOf}
+use Rattle.robot.specs.Figures.{rootFigures}
 
 -- the figures of a run over tables with m moving joints
 abbrev pub solvedList : {S : Type 0} → RootMode → Quaternion → Tables → ℕ → ℕ → Run → Kernel S Wrench → List Float

@@ -1,4 +1,5 @@
 pub mod BoolLaws
 pub mod AllLaws
+pub mod ListedLaws
 pub mod FiniteLaws
 pub mod Worked

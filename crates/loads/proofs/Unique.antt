@@ -1,0 +1,41 @@
+-- Two results that meet a promise of the crate are equal: a promise says what the result equals, and what is lent to be changed.
+use Prim.Native.Nat.{ℕ}
+use mathlib.Core.List.{List}
+use mathlib.Core.Path.{_≡_, sym, _∙_}
+use lib.ListN.{length}
+use Rattle.spatial.specs.declared.Wrench.{Wrench}
+use Rattle.loads.specs.declared.Load.{Load}
+use Rattle.loads.specs.declared.LoadBuffer.{LoadBuffer}
+use Rattle.loads.specs.Checks.{accepted}
+use Rattle.loads.specs.Calls.{setOf, addOf, removeOf, clearOf, listedIn, listNumber}
+
+-- by value: the sums, the buffer's calls, and every check
+pub unique : {A : Type 0} {x r r′ : A} → r ≡ x → r′ ≡ x → r ≡ r′
+unique e e′ = e ∙ sym e′
+
+-- a number, and what is lent
+abbrev pub Meets : {A : Type 0} → ℕ → A → ℕ → A → Type 0
+Meets n x r a = (r ≡ n) × (a ≡ x)
+
+both : {A : Type 0} {n r r′ : ℕ} {x a a′ : A} → Meets n x r a → Meets n x r′ a′ → (r ≡ r′) × (a ≡ a′)
+both m m′ = (unique (m .0) (m′ .0), unique (m .1) (m′ .1))
+
+module _ (b : LoadBuffer) (r r′ : ℕ) where
+  module _ (a a′ : LoadBuffer) where
+    pub set-unique : (id l : ℕ) (w : Wrench) → Meets (setOf b id l w .number) (setOf b id l w .buffer) r a → Meets (setOf b id l w .number) (setOf b id l w .buffer) r′ a′ → (r ≡ r′) × (a ≡ a′)
+    set-unique id l w = both
+
+    pub add-unique : (id l : ℕ) (w : Wrench) → Meets (addOf b id l w .number) (addOf b id l w .buffer) r a → Meets (addOf b id l w .number) (addOf b id l w .buffer) r′ a′ → (r ≡ r′) × (a ≡ a′)
+    add-unique id l w = both
+
+    pub remove-unique : (id l : ℕ) → Meets (removeOf b id l .number) (removeOf b id l .buffer) r a → Meets (removeOf b id l .number) (removeOf b id l .buffer) r′ a′ → (r ≡ r′) × (a ≡ a′)
+    remove-unique id l = both
+
+    pub clear-unique : Meets (clearOf b .number) (clearOf b .buffer) r a → Meets (clearOf b .number) (clearOf b .buffer) r′ a′ → (r ≡ r′) × (a ≡ a′)
+    clear-unique = both
+
+  abbrev listed : List Load → List Load
+  listed table = accepted (listNumber b (length table)) (listedIn b table) table
+
+  pub list-unique : (table a a′ : List Load) → Meets (listNumber b (length table)) (listed table) r a → Meets (listNumber b (length table)) (listed table) r′ a′ → (r ≡ r′) × (a ≡ a′)
+  list-unique table a a′ = both
