@@ -17,7 +17,7 @@ from random import Random
 from unittest import mock
 
 import fuzz
-from deckhand import floats, jsontext, program, readtext, records, refusals, table, writetext
+from deckhand import drawing, floats, jsontext, program, readtext, records, refusals, table, writetext
 from deckhand.fields import Field
 
 HERE = Path(__file__).resolve().parent
@@ -424,6 +424,31 @@ class Tables(unittest.TestCase):
         row = table.machine(result(W1, [-0.0]))["figures"][0]
         self.assertEqual((row["bits"], row["hex"]), ("8000000000000000", "-0x0.0p+0"))
         self.assertEqual((str(row["figure"]), row["number"], row["unit"]), ("-0.0", 0, "N m"))
+
+
+class Drawing(unittest.TestCase):
+    """The arm as a picture in text."""
+
+    def test_sample(self):
+        """Branches, kinds, numbers and loads."""
+        case = readtext.read((HERE / "samples" / "today.json").read_bytes())
+        lines = drawing.drawing(case).splitlines()
+        self.assertEqual(lines[0], "rail")
+        self.assertEqual(lines[2], "|  `- elbow (revolute 1) -- forearm")
+        self.assertEqual(lines[5], "`- davit_swing (revolute 3) -- davit")
+        self.assertEqual(lines[7], "      `- hose_hook (fixed) -- hose  <- 1 load")
+
+    def test_loads(self):
+        """Several loads on the root."""
+        case = readtext.read((HERE / "samples" / "yesterday.json").read_bytes())
+        case.loads = [(0, []), (0, [])]
+        self.assertEqual(drawing.drawing(case).splitlines()[0], "rail  <- 2 loads")
+
+    def test_bad_parent(self):
+        """A joint whose parent is no earlier link is left out, and the drawing ends."""
+        case = readtext.read((HERE / "samples" / "yesterday.json").read_bytes())
+        case.joints[0].parent = 1
+        self.assertNotIn("shoulder", drawing.drawing(case))
 
 
 class Commands(unittest.TestCase):

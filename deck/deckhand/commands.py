@@ -1,16 +1,17 @@
-"""The commands: run, to-records, to-text and compare."""
+"""The commands: run, compare, draw, to-records and to-text."""
 
 import argparse
 import json
 import sys
 from pathlib import Path
 
-from . import program, readtext, records, table, writetext
+from . import drawing, program, readtext, records, table, writetext
 from .jsontext import TextError
 
 ACCEPTED, REFUSED, BAD_INPUT, NO_ANSWER = 0, 1, 2, 3
 USAGE = """deck [options] FILE.json
        deck [options] compare A.json B.json
+       deck draw FILE.json
        deck to-records FILE.json [-o OUT.bin]
        deck to-text IN.bin [--hex] [-o OUT.json]"""
 
@@ -70,6 +71,12 @@ def compare(files, options):
     return show(results(files, options), table.comparison, table.machine_comparison, options)
 
 
+def draw(files, _):
+    """The arm of a text as a tree."""
+    print(drawing.drawing(case_of(files[0])))
+    return ACCEPTED
+
+
 def to_records(files, options):
     """A text into its two records."""
     save(options.output, records.write(case_of(files[0])))
@@ -86,8 +93,8 @@ def to_text(files, options):
     return ACCEPTED
 
 
-COMMANDS = {"compare": (compare, 2), "to-records": (to_records, 1), "to-text": (to_text, 1)}
-TAKEN = {run: ("program", "json"), compare: ("program", "json"), to_records: ("output",), to_text: ("output", "hex")}
+COMMANDS = {"compare": (compare, 2), "draw": (draw, 1), "to-records": (to_records, 1), "to-text": (to_text, 1)}
+TAKEN = {run: ("program", "json"), compare: ("program", "json"), draw: (), to_records: ("output",), to_text: ("output", "hex")}
 
 
 def parsed(words):
