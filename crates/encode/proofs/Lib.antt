@@ -14,4 +14,5 @@ pub mod ListTrip
 pub mod CallTrip
 pub mod RoundTrips
 pub mod GoodWritable
+pub mod Unique
 pub mod Worked

@@ -1,24 +1,14 @@
--- Two results that meet a promise of the crate are equal: a promise says what the result equals, and what is lent to be changed.
+-- Two results of a call on a lent buffer, or on a lent table, that meet its promise are equal.
 use Prim.Native.Nat.{ℕ}
 use mathlib.Core.List.{List}
-use mathlib.Core.Path.{_≡_, sym, _∙_}
+use mathlib.Core.Path.{_≡_}
 use lib.ListN.{length}
 use Rattle.spatial.specs.declared.Wrench.{Wrench}
+use Rattle.spatial.proofs.Unique.{Meets, both}
 use Rattle.loads.specs.declared.Load.{Load}
 use Rattle.loads.specs.declared.LoadBuffer.{LoadBuffer}
 use Rattle.loads.specs.Checks.{accepted}
 use Rattle.loads.specs.Calls.{setOf, addOf, removeOf, clearOf, listedIn, listNumber}
-
--- by value: the sums, the buffer's calls, and every check
-pub unique : {A : Type 0} {x r r′ : A} → r ≡ x → r′ ≡ x → r ≡ r′
-unique e e′ = e ∙ sym e′
-
--- a number, and what is lent
-abbrev pub Meets : {A : Type 0} → ℕ → A → ℕ → A → Type 0
-Meets n x r a = (r ≡ n) × (a ≡ x)
-
-both : {A : Type 0} {n r r′ : ℕ} {x a a′ : A} → Meets n x r a → Meets n x r′ a′ → (r ≡ r′) × (a ≡ a′)
-both m m′ = (unique (m .0) (m′ .0), unique (m .1) (m′ .1))
 
 module _ (b : LoadBuffer) (r r′ : ℕ) where
   module _ (a a′ : LoadBuffer) where

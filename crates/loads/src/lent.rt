@@ -12,73 +12,67 @@ use crate::Load;
 use crate::LoadBuffer;
 use crate::Tables;
 use crate::agree::tables_agree;
-use crate::buffer::add;
-use crate::buffer::clear;
-use crate::buffer::is_empty;
-use crate::buffer::len;
-use crate::buffer::remove;
-use crate::buffer::set;
 use crate::checks::check_list;
 use spatial::Wrench;
 
 // Replaces a link's load, or stores it where the link has none.
-pub fn set_load(buffer: &mut LoadBuffer, id: u64, link: usize, wrench: Wrench) -> u8
+pub fn set(buffer: &mut LoadBuffer, id: u64, link: usize, wrench: Wrench) -> u8
     ensures { λ r. ⌜ (r ≡ setOf (now (buffer .entry)) id link wrench .number) × (now (buffer .exit) ≡ setOf (now (buffer .entry)) id link wrench .buffer) ⌝ }
 {
     let b = *buffer;
-    let r = set(b, id, link, wrench);
+    let r = crate::buffer::set(b, id, link, wrench);
     let written = r.buffer;
     *buffer = written;
     r.number
 }
 
 // Adds to a link's load, or stores the wrench itself where the link has none.
-pub fn add_load(buffer: &mut LoadBuffer, id: u64, link: usize, wrench: Wrench) -> u8
+pub fn add(buffer: &mut LoadBuffer, id: u64, link: usize, wrench: Wrench) -> u8
     ensures { λ r. ⌜ (r ≡ addOf (now (buffer .entry)) id link wrench .number) × (now (buffer .exit) ≡ addOf (now (buffer .entry)) id link wrench .buffer) ⌝ }
 {
     let b = *buffer;
-    let r = add(b, id, link, wrench);
+    let r = crate::buffer::add(b, id, link, wrench);
     let raised = r.buffer;
     *buffer = raised;
     r.number
 }
 
 // Removes a link's load, if it has one.
-pub fn remove_load(buffer: &mut LoadBuffer, id: u64, link: usize) -> u8
+pub fn remove(buffer: &mut LoadBuffer, id: u64, link: usize) -> u8
     ensures { λ r. ⌜ (r ≡ removeOf (now (buffer .entry)) id link .number) × (now (buffer .exit) ≡ removeOf (now (buffer .entry)) id link .buffer) ⌝ }
 {
     let b = *buffer;
-    let r = remove(b, id, link);
+    let r = crate::buffer::remove(b, id, link);
     let reduced = r.buffer;
     *buffer = reduced;
     r.number
 }
 
 // Removes every load.
-pub fn clear_loads(buffer: &mut LoadBuffer) -> u8
+pub fn clear(buffer: &mut LoadBuffer) -> u8
     ensures { λ r. ⌜ (r ≡ clearOf (now (buffer .entry)) .number) × (now (buffer .exit) ≡ clearOf (now (buffer .entry)) .buffer) ⌝ }
 {
     let b = *buffer;
-    let r = clear(b);
+    let r = crate::buffer::clear(b);
     let emptied = r.buffer;
     *buffer = emptied;
     r.number
 }
 
 // How many loads a buffer holds.
-pub fn count_loads(buffer: &LoadBuffer) -> Counted
+pub fn len(buffer: &LoadBuffer) -> Counted
     ensures { λ r. ⌜ r ≡ lenOf (now (buffer .entry)) ⌝ }
 {
     let b = *buffer;
-    len(b)
+    crate::buffer::len(b)
 }
 
 // Whether a buffer holds no load.
-pub fn holds_none(buffer: &LoadBuffer) -> Emptiness
+pub fn is_empty(buffer: &LoadBuffer) -> Emptiness
     ensures { λ r. ⌜ r ≡ isEmptyOf (now (buffer .entry)) ⌝ }
 {
     let b = *buffer;
-    is_empty(b)
+    crate::buffer::is_empty(b)
 }
 
 // The load at a place, with the buffer's model id.
@@ -121,7 +115,7 @@ fn list_answer(b: LoadBuffer, len: usize) -> u8
 }
 
 // The loads in stored order, copied into a lent table.
-pub fn list_loads(b: LoadBuffer, table: &mut [Load]) -> u8
+pub fn list(b: LoadBuffer, table: &mut [Load]) -> u8
     ensures { λ r. ⌜ (r ≡ listNumber b (length (now (table .entry)))) × (now (table .exit) ≡ accepted (listNumber b (length (now (table .entry)))) (listedIn b (now (table .entry))) (now (table .entry))) ⌝ }
 {
     let len = table.len();

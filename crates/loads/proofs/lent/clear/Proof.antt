@@ -1,4 +1,4 @@
--- `loads::lent::clear_loads` meets its contract: a walk of its MIR. The borrow is opened, the struct is copied out, `clear` is called, and what it gave is stored back.
+-- `loads::lent::clear` meets its contract: a walk of its MIR. The borrow is opened, the struct is copied out, `clear` is called, and what it gave is stored back.
 -- Assumes nothing.
 use mathlib.Core.Path.{_≡_, refl, ap}
 use Prim.Native.Nat.{ℕ, _<_, _^_}
@@ -48,10 +48,10 @@ use Rattle.loads.proofs.buffer.clear as put
 use Rattle.loads.proofs.buffer.clear.Symbol as put-def
 use Rattle.loads.proofs.buffer.clear.Symbol.{name as #loads·clear}
 use Rattle.loads.proofs.buffer.clear.Met as put-thm
-use Rattle.loads.proofs.lent.clear_loads.Key.{name as #loads·clear-loads}
-use Rattle.loads.proofs.lent.clear_loads as me
-use Rattle.loads.proofs.lent.clear_loads.Statement as stated
-use Rattle.loads.proofs.lent.clear_loads.Code as code
+use Rattle.loads.proofs.lent.clear.Key.{name as #lent·clear}
+use Rattle.loads.proofs.lent.clear as me
+use Rattle.loads.proofs.lent.clear.Statement as stated
+use Rattle.loads.proofs.lent.clear.Code as code
 
 abbrev tv : LoadBuffer → Val
 tv = LL.val T.the-type T′.the-laws
@@ -128,10 +128,10 @@ me-meets : {M : Type 1} (𝓤 : URA M) (H : Heap 𝓤) (A : Atoms 𝓤) (W : Giv
 me-meets 𝓤 H A W at-mem run 𝓣 known = walk-meets 𝓤 H A me.ended stayed W (all-go 𝓤 H A W at-mem run) (me.clauses 𝓤 H A at-mem run) (WpFn 𝓤 H (𝓣 .C) (𝓣 .Λ) code.function) (WpFn-mono 𝓤 H (W .laws) 𝓣 code.function)
     (me-walks 𝓤 H A W at-mem run (𝓣 .C) (𝓣 .Λ) (fmOf 𝓤 H (W .laws) 𝓣) known)
 
-pub clear-loads-spec : {M : Type 1} → stated.statement M
+pub clear-spec : {M : Type 1} → stated.statement M
 unfolding code.routine tablesOf
-clear-loads-spec 𝓤 H 𝓜 𝓖 𝓡 =
+clear-spec 𝓤 H 𝓜 𝓖 𝓡 =
     entered 𝓤 H (tripleOf 𝓤 H (𝓖 .A) me.signature (me.spec 𝓤 H (𝓖 .A) (𝓜 .mem) (𝓡 .run)))
-    (tables 𝓤 H 𝓜 𝓡 code.env .C) (tables 𝓤 H 𝓜 𝓡 code.env .Λ) #loads·clear-loads code.function (code.unfolded 𝓤 H 𝓜 𝓡)
+    (tables 𝓤 H 𝓜 𝓡 code.env .C) (tables 𝓤 H 𝓜 𝓡 code.env .Λ) #lent·clear code.function (code.unfolded 𝓤 H 𝓜 𝓡)
     (me-meets 𝓤 H (𝓖 .A) (givenOf 𝓤 H 𝓜 𝓖) (𝓜 .mem) (𝓡 .run) (tablesOf 𝓤 H 𝓜 (tables 𝓤 H 𝓜 𝓡 code.env))
     (cited 𝓤 H (Put 𝓤 H (𝓖 .A) (𝓜 .mem) (𝓡 .run)) 𝓜 𝓡 code.env #loads·clear put-def.routine code.calls-loads·buffer·clear (put-thm.met 𝓤 H 𝓜 𝓖 𝓡)))

@@ -1,4 +1,4 @@
--- `loads::lent::remove_load` meets its contract: a walk of its MIR. The borrow is opened, the struct is copied out, `remove` is called, and what it gave is stored back.
+-- `loads::lent::remove` meets its contract: a walk of its MIR. The borrow is opened, the struct is copied out, `remove` is called, and what it gave is stored back.
 -- Assumes nothing.
 use mathlib.Core.Path.{_≡_, refl, ap}
 use Prim.Native.Nat.{ℕ, _<_, _^_}
@@ -49,10 +49,10 @@ use Rattle.loads.proofs.buffer.remove as put
 use Rattle.loads.proofs.buffer.remove.Symbol as put-def
 use Rattle.loads.proofs.buffer.remove.Symbol.{name as #loads·remove}
 use Rattle.loads.proofs.buffer.remove.Met as put-thm
-use Rattle.loads.proofs.lent.remove_load.Key.{name as #loads·remove-load}
-use Rattle.loads.proofs.lent.remove_load as me
-use Rattle.loads.proofs.lent.remove_load.Statement as stated
-use Rattle.loads.proofs.lent.remove_load.Code as code
+use Rattle.loads.proofs.lent.remove.Key.{name as #lent·remove}
+use Rattle.loads.proofs.lent.remove as me
+use Rattle.loads.proofs.lent.remove.Statement as stated
+use Rattle.loads.proofs.lent.remove.Code as code
 
 abbrev tv : LoadBuffer → Val
 tv = LL.val T.the-type T′.the-laws
@@ -129,10 +129,10 @@ me-meets : {M : Type 1} (𝓤 : URA M) (H : Heap 𝓤) (A : Atoms 𝓤) (W : Giv
 me-meets 𝓤 H A W at-mem run 𝓣 known = walk-meets 𝓤 H A me.ended stayed W (all-go 𝓤 H A W at-mem run) (me.clauses 𝓤 H A at-mem run) (WpFn 𝓤 H (𝓣 .C) (𝓣 .Λ) code.function) (WpFn-mono 𝓤 H (W .laws) 𝓣 code.function)
     (me-walks 𝓤 H A W at-mem run (𝓣 .C) (𝓣 .Λ) (fmOf 𝓤 H (W .laws) 𝓣) known)
 
-pub remove-load-spec : {M : Type 1} → stated.statement M
+pub remove-spec : {M : Type 1} → stated.statement M
 unfolding code.routine tablesOf
-remove-load-spec 𝓤 H 𝓜 𝓖 𝓡 =
+remove-spec 𝓤 H 𝓜 𝓖 𝓡 =
     entered 𝓤 H (tripleOf 𝓤 H (𝓖 .A) me.signature (me.spec 𝓤 H (𝓖 .A) (𝓜 .mem) (𝓡 .run)))
-    (tables 𝓤 H 𝓜 𝓡 code.env .C) (tables 𝓤 H 𝓜 𝓡 code.env .Λ) #loads·remove-load code.function (code.unfolded 𝓤 H 𝓜 𝓡)
+    (tables 𝓤 H 𝓜 𝓡 code.env .C) (tables 𝓤 H 𝓜 𝓡 code.env .Λ) #lent·remove code.function (code.unfolded 𝓤 H 𝓜 𝓡)
     (me-meets 𝓤 H (𝓖 .A) (givenOf 𝓤 H 𝓜 𝓖) (𝓜 .mem) (𝓡 .run) (tablesOf 𝓤 H 𝓜 (tables 𝓤 H 𝓜 𝓡 code.env))
     (cited 𝓤 H (Put 𝓤 H (𝓖 .A) (𝓜 .mem) (𝓡 .run)) 𝓜 𝓡 code.env #loads·remove put-def.routine code.calls-loads·buffer·remove (put-thm.met 𝓤 H 𝓜 𝓖 𝓡)))

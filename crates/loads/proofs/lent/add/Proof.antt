@@ -1,4 +1,4 @@
--- `loads::lent::set_load` meets its contract: a walk of its MIR. The borrow is opened, the struct is copied out, `set` is called, and what it gave is stored back.
+-- `loads::lent::add` meets its contract: a walk of its MIR. The borrow is opened, the struct is copied out, `add` is called, and what it gave is stored back.
 -- Assumes nothing.
 use mathlib.Core.Path.{_≡_, refl, ap}
 use Prim.Native.Nat.{ℕ, _<_, _^_}
@@ -38,7 +38,7 @@ use denote.Triple.Spec.{Meets, tripleOf}
 use denote.Triple.Table.{entered, cited}
 use denote.Triple.Walked.{says, Stays, stay-ref, stay-none, walkOf, AllGo, goes-none, goes-ref, Walks, ends-at, walked, walk-meets}
 use denote.Exit.{yes}
-use Rattle.loads.specs.Calls.{setOf}
+use Rattle.loads.specs.Calls.{addOf}
 use Rattle.loads.specs.declared.LoadBuffer.{LoadBuffer}
 use Rattle.loads.specs.declared.Changed.{Changed}
 use Rattle.spatial.specs.declared.Wrench.{Wrench as WrenchT}
@@ -48,14 +48,14 @@ use Rattle.loads.proofs.LoadBuffer as T
 use Rattle.loads.proofs.LoadBuffer.Laws as T′
 use Rattle.loads.proofs.Changed as R
 use Rattle.loads.proofs.Changed.Laws as R′
-use Rattle.loads.proofs.buffer.set as put
-use Rattle.loads.proofs.buffer.set.Symbol as put-def
-use Rattle.loads.proofs.buffer.set.Symbol.{name as #loads·set}
-use Rattle.loads.proofs.buffer.set.Met as put-thm
-use Rattle.loads.proofs.lent.set_load.Key.{name as #loads·set-load}
-use Rattle.loads.proofs.lent.set_load as me
-use Rattle.loads.proofs.lent.set_load.Statement as stated
-use Rattle.loads.proofs.lent.set_load.Code as code
+use Rattle.loads.proofs.buffer.add as put
+use Rattle.loads.proofs.buffer.add.Symbol as put-def
+use Rattle.loads.proofs.buffer.add.Symbol.{name as #loads·add}
+use Rattle.loads.proofs.buffer.add.Met as put-thm
+use Rattle.loads.proofs.lent.add.Key.{name as #lent·add}
+use Rattle.loads.proofs.lent.add as me
+use Rattle.loads.proofs.lent.add.Statement as stated
+use Rattle.loads.proofs.lent.add.Code as code
 
 abbrev tv : LoadBuffer → Val
 tv = LL.val T.the-type T′.the-laws
@@ -67,8 +67,8 @@ module _ {M : Type 1} (𝓤 : URA M) (H : Heap 𝓤) (A : Atoms 𝓤) (at-mem : 
   abbrev Put : Contract 𝓤
   Put = tripleOf 𝓤 H A put.signature (put.spec 𝓤 H A at-mem run)
 
-  put-of : (h : LoadBuffer) (a0 : ℕ) (a1 : ℕ) (a2 : WrenchT) (r : Changed) → ent 𝓤 (ensured 𝓤 H A put.ended (put.clauses 𝓤 H A at-mem run) tt (h, (a0, (a1, (a2, tt)))) tt r) (fact 𝓤 (r ≡ setOf h a0 a1 a2))
-  put-of h a0 a1 a2 r = exE 𝓤 _ (λ ws. snd∗ 𝓤 (sem 𝓤 H A (lasts put.ended tt (h, (a0, (a1, (a2, tt)))) ws)) (fact 𝓤 (r ≡ setOf h a0 a1 a2)))
+  put-of : (h : LoadBuffer) (a0 : ℕ) (a1 : ℕ) (a2 : WrenchT) (r : Changed) → ent 𝓤 (ensured 𝓤 H A put.ended (put.clauses 𝓤 H A at-mem run) tt (h, (a0, (a1, (a2, tt)))) tt r) (fact 𝓤 (r ≡ addOf h a0 a1 a2))
+  put-of h a0 a1 a2 r = exE 𝓤 _ (λ ws. snd∗ 𝓤 (sem 𝓤 H A (lasts put.ended tt (h, (a0, (a1, (a2, tt)))) ws)) (fact 𝓤 (r ≡ addOf h a0 a1 a2)))
 
 module _ {M : Type 1} (𝓤 : URA M) (H : Heap 𝓤) (A : Atoms 𝓤) (W : Given 𝓤 H A) (at-mem : Memory → SProp 𝓤) (run : Routine → Fun 𝓤) (κ : Lft) (q : Share) (b o : ℕ) (γ : GName) (h : LoadBuffer) (a0 : ℕ) (a1 : ℕ) (a2 : WrenchT) (f0 : a0 < 2 ^ 64) (f1 : a1 < 2 ^ 64) (f2 : Is Wrench.the-row a2 (LL.vals Wrench.the-type Wrench′.the-laws a2)) where
   abbrev x : RefT LoadBuffer × (ℕ × (ℕ × (WrenchT × (Unit {0}))))
@@ -80,7 +80,7 @@ module _ {M : Type 1} (𝓤 : URA M) (H : Heap 𝓤) (A : Atoms 𝓤) (W : Given
   abbrev Post : Val → SProp 𝓤
   Post = walkOf 𝓤 H A me.ended stayed (me.clauses 𝓤 H A at-mem run) .post (((κ, tt), (q, tt), tt, x, at), tt)
 
-  exits : (r : Changed) → r ≡ setOf h a0 a1 a2 → r .number < 2 ^ 8 → ent 𝓤 (sep 𝓤 (A .obs γ (T.the-row .coded .code (r .buffer))) (sep 𝓤 (A .bor κ (Body (mem T.the-row) b o γ)) (A .lft κ q))) (Post (vint w8 (r .number)))
+  exits : (r : Changed) → r ≡ addOf h a0 a1 a2 → r .number < 2 ^ 8 → ent 𝓤 (sep 𝓤 (A .obs γ (T.the-row .coded .code (r .buffer))) (sep 𝓤 (A .bor κ (Body (mem T.the-row) b o γ)) (A .lft κ q))) (Post (vint w8 (r .number)))
   exits r e rf =
       qed W (‵ (fobs γ (T.the-row .coded .code (r .buffer))) ∷ ‵ (fbor κ (Body (mem T.the-row) b o γ)) ∷ ‵ (flft κ q) ∷ []) ∵
       suffices ! _ (ends-at 𝓤 H A me.ended stayed (me.clauses 𝓤 H A at-mem run) W (((κ, tt), (q, tt), tt, x, at), tt) (vint w8 (r .number)) (r .number) (r .buffer, (tt, (tt, (tt, tt)))) (tt, (tt, (tt, (tt, tt))))) $
@@ -93,7 +93,7 @@ module _ {M : Type 1} (𝓤 : URA M) (H : Heap 𝓤) (A : Atoms 𝓤) (W : Given
   goes : ent 𝓤 (sem 𝓤 H A (T.the-row .own h (tv h ∷ []))) (Put 𝓤 H A at-mem run .pre to-put)
   goes = qed W (‵ (T.the-row .own h (tv h ∷ [])) ∷ []) ∵ nothing ! $ owned ! Wrench.the-row (Is Wrench.the-row) (LL.makes Wrench.the-type Wrench′.the-plain 𝓤 H A) a2 _ f2 $ fjoin ! $ owned ! usize (Is usize) (uint-makes 𝓤 H A W w64) a1 _ (refl, f1) $ fjoin ! $ owned ! u64 (Is u64) (uint-makes 𝓤 H A W w64) a0 _ (refl, f0) $ fjoin ! $ move ! (1 ∷ 0 ∷ []) $ fjoin ! $ nothing ! $ join ! $ frame ! $ done !
 
-  module _ (C : Calls 𝓤 H) (Λ : Loops 𝓤 H) (fm : FmC 𝓤 H (W .laws) C) (known : Triple 𝓤 (C #loads·set) (Put 𝓤 H A at-mem run)) where
+  module _ (C : Calls 𝓤 H) (Λ : Loops 𝓤 H) (fm : FmC 𝓤 H (W .laws) C) (known : Triple 𝓤 (C #loads·add) (Put 𝓤 H A at-mem run)) where
     walk : ent 𝓤 (onEntry 𝓤 H A me.signature (κ, tt) (q, tt) x at) (WpFn 𝓤 H C Λ code.function (vptr b o ∷ vint w64 a0 ∷ vint w64 a1 ∷ LL.val Wrench.the-type Wrench′.the-laws a2 ∷ []) Post)
     walk =
         qed W ((‵ (flft κ q) ⊛ ‵ ftrue) ∷ ‵ (owns (MutRef (named 0) κ T.the-row ∷ u64 ∷ usize ∷ Wrench.the-row ∷ []) x at) ∷ []) ∵ split ! $ move ! (2 ∷ []) $ fsplit ! $ fsplit3 ! $ drop ! $ move ! (0 ∷ 1 ∷ 3 ∷ []) $
@@ -106,7 +106,7 @@ module _ {M : Type 1} (𝓤 : URA M) (H : Heap 𝓤) (A : Atoms 𝓤) (W : Given
         move ! (1 ∷ []) $ use1 W (raw (Put 𝓤 H A at-mem run .pre to-put)) goes $
         calls-at ! fm (Put 𝓤 H A at-mem run) known to-put (and-then ! (load ! (from ! (stop !)) (look ! 9 refl)) (and-then ! (load ! (from ! (stop !)) (look ! 15 refl)) (and-then ! (load ! (from ! (stop !)) (look ! 13 refl)) (and-then ! (load ! (from ! (stop !)) (look ! 11 refl)) (no-more !))))) (λ v.
         use1 W (later (some (λ (r : Changed). (‵ ftrue ⊛ ‵ (R.the-row .own r (v ∷ []))) ⊛ raw (ensured 𝓤 H A put.ended (put.clauses 𝓤 H A at-mem run) tt (h, (a0, (a1, (a2, tt)))) tt r)))) (id⊢ 𝓤 _) $ await ! tt $ pick ! (λ r.
-        split ! $ move ! (1 ∷ []) $ use1 W (raw (fact 𝓤 (r ≡ setOf h a0 a1 a2))) (put-of 𝓤 H A at-mem run h a0 a1 a2 r) $ heard ! (r ≡ setOf h a0 a1 a2) (λ e. split ! $ drop ! $
+        split ! $ move ! (1 ∷ []) $ use1 W (raw (fact 𝓤 (r ≡ addOf h a0 a1 a2))) (put-of 𝓤 H A at-mem run h a0 a1 a2 r) $ heard ! (r ≡ addOf h a0 a1 a2) (λ e. split ! $ drop ! $
         peeks ! R.the-row (Is R.the-row) (shows 𝓤 H A R.the-row) r (v ∷ []) (λ is.
         land ! (from ! (stop !)) (init ! 7 refl (LL.lawful R.the-type R′.the-laws 𝓤 H A W .typed r _ is .0)) $
         rewrite ! 7 (λ (u : Val). ‵ (fat fullShare R′.mir l₆ 0 u)) (ap only (LL.tells R.the-type R′.the-laws r (v ∷ []) is)) refl $
@@ -120,22 +120,22 @@ module _ {M : Type 1} (𝓤 : URA M) (H : Heap 𝓤) (A : Atoms 𝓤) (W : Given
         keep ! (0 ∷ 1 ∷ 2 ∷ []) $ by ! (exits r e (LL.owed R.the-type R′.the-laws r _ is .0 .1))))))))))))))))
 
 module _ {M : Type 1} (𝓤 : URA M) (H : Heap 𝓤) (A : Atoms 𝓤) (W : Given 𝓤 H A) (at-mem : Memory → SProp 𝓤) (run : Routine → Fun 𝓤) where
-  me-walks : (C : Calls 𝓤 H) (Λ : Loops 𝓤 H) → FmC 𝓤 H (W .laws) C → Triple 𝓤 (C #loads·set) (Put 𝓤 H A at-mem run) → Walks 𝓤 H A me.ended stayed (WpFn 𝓤 H C Λ code.function) (me.clauses 𝓤 H A at-mem run)
+  me-walks : (C : Calls 𝓤 H) (Λ : Loops 𝓤 H) → FmC 𝓤 H (W .laws) C → Triple 𝓤 (C #loads·add) (Put 𝓤 H A at-mem run) → Walks 𝓤 H A me.ended stayed (WpFn 𝓤 H C Λ code.function) (me.clauses 𝓤 H A at-mem run)
   me-walks C Λ fm known = walked 𝓤 H A me.ended stayed (me.clauses 𝓤 H A at-mem run) (WpFn 𝓤 H C Λ code.function) (λ κs. (ptr-vals, (uint-vals w64, (uint-vals w64, (LL.vals Wrench.the-type Wrench′.the-laws, tt))))) (λ κs. (mut-tells (named 0) (κs .0) T.the-row, (uint-tells w64, (uint-tells w64, (LL.tells Wrench.the-type Wrench′.the-laws, tt)))))
       (λ κs qs bounds a _ are. via 𝓤 _ (fst∗ 𝓤 _ (emp 𝓤)) (walk 𝓤 H A W at-mem run (κs .0) (qs .0) (a .0 .ptr .0) (a .0 .ptr .1) (a .0 .name) (a .0 .now) (a .1 .0) (a .1 .1 .0) (a .1 .1 .1 .0) (are .1 .0 .1) (are .1 .1 .0 .1) (are .1 .1 .1 .0) C Λ fm known))
 
   all-go : AllGo 𝓤 H A W 1 (me.signature .params) (me.ended .kept) stayed
   all-go = (goes-ref 𝓤 H A W 1 0 tt (plain (λ _. T.the-row)), (goes-none 𝓤 H A W 1 (λ _. u64) yes (λ κs x f. refl), (goes-none 𝓤 H A W 1 (λ _. usize) yes (λ κs x f. refl), (goes-none 𝓤 H A W 1 (λ _. Wrench.the-row) yes (λ κs x f. refl), tt))))
 
-me-meets : {M : Type 1} (𝓤 : URA M) (H : Heap 𝓤) (A : Atoms 𝓤) (W : Given 𝓤 H A) (at-mem : Memory → SProp 𝓤) (run : Routine → Fun 𝓤) (𝓣 : Tables 𝓤 H) → Triple 𝓤 (𝓣 .C #loads·set) (Put 𝓤 H A at-mem run)
+me-meets : {M : Type 1} (𝓤 : URA M) (H : Heap 𝓤) (A : Atoms 𝓤) (W : Given 𝓤 H A) (at-mem : Memory → SProp 𝓤) (run : Routine → Fun 𝓤) (𝓣 : Tables 𝓤 H) → Triple 𝓤 (𝓣 .C #loads·add) (Put 𝓤 H A at-mem run)
     → Meets 𝓤 H A me.signature (WpFn 𝓤 H (𝓣 .C) (𝓣 .Λ) code.function) (me.spec 𝓤 H A at-mem run)
 me-meets 𝓤 H A W at-mem run 𝓣 known = walk-meets 𝓤 H A me.ended stayed W (all-go 𝓤 H A W at-mem run) (me.clauses 𝓤 H A at-mem run) (WpFn 𝓤 H (𝓣 .C) (𝓣 .Λ) code.function) (WpFn-mono 𝓤 H (W .laws) 𝓣 code.function)
     (me-walks 𝓤 H A W at-mem run (𝓣 .C) (𝓣 .Λ) (fmOf 𝓤 H (W .laws) 𝓣) known)
 
-pub set-load-spec : {M : Type 1} → stated.statement M
+pub add-spec : {M : Type 1} → stated.statement M
 unfolding code.routine tablesOf
-set-load-spec 𝓤 H 𝓜 𝓖 𝓡 =
+add-spec 𝓤 H 𝓜 𝓖 𝓡 =
     entered 𝓤 H (tripleOf 𝓤 H (𝓖 .A) me.signature (me.spec 𝓤 H (𝓖 .A) (𝓜 .mem) (𝓡 .run)))
-    (tables 𝓤 H 𝓜 𝓡 code.env .C) (tables 𝓤 H 𝓜 𝓡 code.env .Λ) #loads·set-load code.function (code.unfolded 𝓤 H 𝓜 𝓡)
+    (tables 𝓤 H 𝓜 𝓡 code.env .C) (tables 𝓤 H 𝓜 𝓡 code.env .Λ) #lent·add code.function (code.unfolded 𝓤 H 𝓜 𝓡)
     (me-meets 𝓤 H (𝓖 .A) (givenOf 𝓤 H 𝓜 𝓖) (𝓜 .mem) (𝓡 .run) (tablesOf 𝓤 H 𝓜 (tables 𝓤 H 𝓜 𝓡 code.env))
-    (cited 𝓤 H (Put 𝓤 H (𝓖 .A) (𝓜 .mem) (𝓡 .run)) 𝓜 𝓡 code.env #loads·set put-def.routine code.calls-loads·buffer·set (put-thm.met 𝓤 H 𝓜 𝓖 𝓡)))
+    (cited 𝓤 H (Put 𝓤 H (𝓖 .A) (𝓜 .mem) (𝓡 .run)) 𝓜 𝓡 code.env #loads·add put-def.routine code.calls-loads·buffer·add (put-thm.met 𝓤 H 𝓜 𝓖 𝓡)))

@@ -1,4 +1,4 @@
--- `loads::lent::list_loads` meets its contract: a walk of its MIR. The borrow is opened once, before the loop, and closed once, after it.
+-- `loads::lent::list` meets its contract: a walk of its MIR. The borrow is opened once, before the loop, and closed once, after it.
 -- Assumes nothing.
 use mathlib.Core.Path.{_≡_, refl, sym, ap, _∙_, subst}
 use Prim.Native.Nat.{ℕ, zero, suc, _<_, _≤_, _^_, _+_, _-_, _*_, zero-le}
@@ -64,11 +64,11 @@ use Rattle.loads.proofs.lent.list_answer as answer
 use Rattle.loads.proofs.lent.list_answer.Met as answer-thm
 use Rattle.loads.proofs.lent.list_answer.Symbol as answer-def
 use Rattle.loads.proofs.lent.list_answer.Symbol.{name as #answer}
-use Rattle.loads.proofs.lent.list_loads as me
-use Rattle.loads.proofs.lent.list_loads.Code as code
-use Rattle.loads.proofs.lent.list_loads.Code.Mir as Mir
-use Rattle.loads.proofs.lent.list_loads.Key.{name as #me}
-use Rattle.loads.proofs.lent.list_loads.Statement as stated
+use Rattle.loads.proofs.lent.list as me
+use Rattle.loads.proofs.lent.list.Code as code
+use Rattle.loads.proofs.lent.list.Code.Mir as Mir
+use Rattle.loads.proofs.lent.list.Key.{name as #me}
+use Rattle.loads.proofs.lent.list.Statement as stated
 use Rattle.loads.proofs.lent.list_plan as plan
 use Rattle.loads.proofs.lent.list_plan.Met as plan-thm
 use Rattle.loads.proofs.lent.list_plan.Symbol as plan-def
@@ -289,9 +289,9 @@ module _ {M : Type 1} (𝓤 : URA M) (H : Heap 𝓤) (A : Atoms 𝓤) (W : Given
   me-meets : (𝓣 : Tables 𝓤 H) → Triple 𝓤 (𝓣 .C #plan) (Plan 𝓤 H A at-mem run) → Triple 𝓤 (𝓣 .C #elem) (Elem 𝓤 H A at-mem run) → Triple 𝓤 (𝓣 .C #answer) (Answer 𝓤 H A at-mem run) → Meets 𝓤 H A me.signature (WpFn 𝓤 H (𝓣 .C) (𝓣 .Λ) code.function) (me.spec 𝓤 H A at-mem run)
   me-meets 𝓣 known-plan known-elem known-answer = walk-meets 𝓤 H A me.ended stayed W all-go (me.clauses 𝓤 H A at-mem run) (WpFn 𝓤 H (𝓣 .C) (𝓣 .Λ) code.function) (WpFn-mono 𝓤 H (W .laws) 𝓣 code.function) (me-walks 𝓣 known-plan known-elem known-answer)
 
-pub list-loads-spec : {M : Type 1} → stated.statement M
+pub list-spec : {M : Type 1} → stated.statement M
 unfolding code.routine tablesOf
-list-loads-spec 𝓤 H 𝓜 𝓖 𝓡 =
+list-spec 𝓤 H 𝓜 𝓖 𝓡 =
     entered 𝓤 H (tripleOf 𝓤 H (𝓖 .A) me.signature (me.spec 𝓤 H (𝓖 .A) (𝓜 .mem) (𝓡 .run)))
     (tables 𝓤 H 𝓜 𝓡 code.env .C) (tables 𝓤 H 𝓜 𝓡 code.env .Λ) #me code.function (code.unfolded 𝓤 H 𝓜 𝓡)
     (me-meets 𝓤 H (𝓖 .A) (givenOf 𝓤 H 𝓜 𝓖) (𝓜 .mem) (𝓡 .run) (tablesOf 𝓤 H 𝓜 (tables 𝓤 H 𝓜 𝓡 code.env))

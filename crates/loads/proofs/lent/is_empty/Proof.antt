@@ -1,4 +1,4 @@
--- `loads::lent::holds_none` meets its contract: a walk of its MIR. The borrow is looked into, the struct is copied out, the borrow is shut, and `is_empty` is called.
+-- `loads::lent::is_empty` meets its contract: a walk of its MIR. The borrow is looked into, the struct is copied out, the borrow is shut, and `is_empty` is called.
 -- Assumes nothing.
 use mathlib.Core.Path.{_≡_, refl}
 use Prim.Native.Nat.{ℕ}
@@ -44,10 +44,10 @@ use Rattle.loads.proofs.buffer.is_empty as ask
 use Rattle.loads.proofs.buffer.is_empty.Symbol as ask-def
 use Rattle.loads.proofs.buffer.is_empty.Symbol.{name as #ask}
 use Rattle.loads.proofs.buffer.is_empty.Met as ask-thm
-use Rattle.loads.proofs.lent.holds_none.Key.{name as #me}
-use Rattle.loads.proofs.lent.holds_none as me
-use Rattle.loads.proofs.lent.holds_none.Statement as stated
-use Rattle.loads.proofs.lent.holds_none.Code as code
+use Rattle.loads.proofs.lent.is_empty.Key.{name as #me}
+use Rattle.loads.proofs.lent.is_empty as me
+use Rattle.loads.proofs.lent.is_empty.Statement as stated
+use Rattle.loads.proofs.lent.is_empty.Code as code
 
 abbrev tv : LoadBuffer → Val
 tv = LL.val T.the-type T′.the-laws
@@ -119,9 +119,9 @@ me-meets : {M : Type 1} (𝓤 : URA M) (H : Heap 𝓤) (A : Atoms 𝓤) (W : Giv
 me-meets 𝓤 H A W at-mem run 𝓣 known = walk-meets 𝓤 H A me.ended stayed W (all-go 𝓤 H A W at-mem run) (me.clauses 𝓤 H A at-mem run) (WpFn 𝓤 H (𝓣 .C) (𝓣 .Λ) code.function) (WpFn-mono 𝓤 H (W .laws) 𝓣 code.function)
     (me-walks 𝓤 H A W at-mem run (𝓣 .C) (𝓣 .Λ) (fmOf 𝓤 H (W .laws) 𝓣) known)
 
-pub holds-none-spec : {M : Type 1} → stated.statement M
+pub is-empty-spec : {M : Type 1} → stated.statement M
 unfolding code.routine tablesOf
-holds-none-spec 𝓤 H 𝓜 𝓖 𝓡 =
+is-empty-spec 𝓤 H 𝓜 𝓖 𝓡 =
     entered 𝓤 H (tripleOf 𝓤 H (𝓖 .A) me.signature (me.spec 𝓤 H (𝓖 .A) (𝓜 .mem) (𝓡 .run)))
     (tables 𝓤 H 𝓜 𝓡 code.env .C) (tables 𝓤 H 𝓜 𝓡 code.env .Λ) #me code.function (code.unfolded 𝓤 H 𝓜 𝓡)
     (me-meets 𝓤 H (𝓖 .A) (givenOf 𝓤 H 𝓜 𝓖) (𝓜 .mem) (𝓡 .run) (tablesOf 𝓤 H 𝓜 (tables 𝓤 H 𝓜 𝓡 code.env))
