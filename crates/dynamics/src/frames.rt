@@ -58,6 +58,34 @@ pub fn joint_frame(kind: JointType, origin: Frame, axis: Vector3, pose: Pose) ->
     }
 }
 
+// The rotation alone: a revolute joint's origin, turned.
+fn joint_rotation(kind: JointType, origin: Frame, axis: Vector3, pose: Pose) -> Quaternion
+    ensures { λ r. ⌜ r ≡ jointFrame kind origin axis pose .rotation ⌝ }
+{
+    match kind {
+        JointType::Fixed => origin.rotation,
+        JointType::Revolute => match pose {
+            Pose::Half(s, c) => product(origin.rotation, half_turn(s, c, axis)),
+            Pose::Slide(_) => origin.rotation,
+        },
+        JointType::Prismatic => origin.rotation,
+    }
+}
+
+// The translation alone: a prismatic joint's origin, moved along.
+fn joint_translation(kind: JointType, origin: Frame, axis: Vector3, pose: Pose) -> Vector3
+    ensures { λ r. ⌜ r ≡ jointFrame kind origin axis pose .translation ⌝ }
+{
+    match kind {
+        JointType::Fixed => origin.translation,
+        JointType::Revolute => origin.translation,
+        JointType::Prismatic => match pose {
+            Pose::Half(_, _) => origin.translation,
+            Pose::Slide(x) => add(origin.translation, rotate(origin.rotation, scale(axis, x))),
+        },
+    }
+}
+
 // A moving joint's pose in a list of two numbers a joint.
 fn pose_in(kind: JointType, number: usize, poses: &[f64]) -> Pose
     requires { ⌜ (moves kind ≡ true → number * 2 + 1 < length (now poses)) ⌝ }
@@ -85,6 +113,22 @@ pub fn frame_in(joint: Joint, poses: &[f64]) -> Frame
     let number = joint.number;
     let pose = pose_in(kind, number, poses);
     joint_frame(kind, joint.origin, joint.axis, pose)
+}
+
+// The same by its parts, for gravity: shared by two kernels, neither code would be inlined.
+pub fn parts_in(joint: Joint, poses: &[f64]) -> Frame
+    requires { ⌜ (moves (joint .kind) ≡ true → joint .number * 2 + 1 < length (now poses)) ⌝ }
+    ensures { λ r. ⌜ r ≡ jointFrame (joint .kind) (joint .origin) (joint .axis) (poseIn (joint .kind) (joint .number) (now (poses .entry))) ⌝ }
+{
+    let kind = joint.kind;
+    let number = joint.number;
+    let pose = pose_in(kind, number, poses);
+    let rotation = joint_rotation(kind, joint.origin, joint.axis, pose);
+    let translation = joint_translation(kind, joint.origin, joint.axis, pose);
+    Frame {
+        rotation,
+        translation,
+    }
 }
 
 // What fills an array of frames at first.

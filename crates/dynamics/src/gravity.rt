@@ -6,7 +6,7 @@ ghost use Rattle.dynamics.specs.Figures.{gravityOf};
 ghost use Rattle.dynamics.specs.Flat.{runOf, Ready};
 ghost use Rattle.dynamics.specs.Output.{Done};
 use crate::figures::put;
-use crate::frames::frame_in;
+use crate::frames::parts_in;
 use crate::frames::zero_frame;
 use crate::weights::gravity_wrench_at;
 use crate::weights::turned;
@@ -40,7 +40,7 @@ pub fn gravity_kernel<'a>(
     while j + 1 < count {
         let joint = joint_at(joints, kinds, parents, numbers, j);
         let p = joint.parent;
-        let frame = frame_in(joint, poses);
+        let frame = parts_in(joint, poses);
         frames[j] = frame;
         gravities[j + 1] = turned(frame.rotation, gravities[p]);
         j += 1;

@@ -97,8 +97,8 @@ joint-at-requires c κs =
     let z = start1 (c .before) .pre .sized in
     (small1 c, z .joints, z .kinds, z .parents, z .numbers)
 
-frame-in-requires : tie.Need-frame-in-requires Inv-loop μ-loop Inv-loop2 μ-loop2
-frame-in-requires c κs =
+parts-in-requires : tie.Need-parts-in-requires Inv-loop μ-loop Inv-loop2 μ-loop2
+parts-in-requires c κs =
     let s = start1 (c .before .before) in
     λ b. omega (arith, s .pre .poses, number-fits (run s) _ (s .pre .fit) _ _ (c .joint-at .ensures) (here1 (c .before)) b)
 
@@ -137,7 +137,7 @@ loop-again c =
     let s = start1 (c .before .before .before .before .before) in
     let i = (c .before .before .before .before .before) .loop in
     let jt = (c .before .before .before) .joint-at in
-    let fr = (c .before .before) .frame-in in
+    let fr = (c .before .before) .parts-in in
     let ef = frame-is (lent (s .args .links .now) (s .args .joints .now) (s .args .kinds .now) (s .args .parents .now) (s .args .numbers .now)) (s .args .count) (s .args .poses .now) [] [] (s .args .t9) (i .j) (jt .result) (fr .result) (jt .ensures) (fr .ensures) in (
       (c .before .before .before .before) .loop-test .taken,
       length-set (i .frames) (i .j) (fr .result) ∙ i .inv .1,
@@ -291,7 +291,7 @@ gravity-kernel-spec =
     loop-holds
     add-loop
     joint-at-requires
-    frame-in-requires
+    parts-in-requires
     mul-frames
     array-set-from-frames
     mul-turned
