@@ -19,7 +19,7 @@ pub fn wrench(values: &[f64; 6]) -> Wrench {
 }
 
 /// The base frame of a base state's floats.
-fn base_frame(base: &[f64; 19]) -> Frame {
+pub fn base_frame(base: &[f64; 19]) -> Frame {
     Isometry3 {
         rotation: UnitQuaternion {
             coords: [base[0], base[1], base[2], base[3]],
@@ -69,13 +69,13 @@ pub fn robot_model(case: &Case) -> RobotModel {
 }
 
 /// The positions that the given Rust sees: distances, and a dummy 0 for a pair.
-fn positions(case: &Case) -> Vec<f64> {
+pub fn positions(case: &Case) -> Vec<f64> {
     let value = |pose: &crate::tables::Pose| if pose.tag == 2 { pose.first } else { 0.0 };
     case.poses.iter().map(value).collect()
 }
 
 /// The given Rust's load of a load record.
-fn indexed(load: &Load) -> IndexedLoad {
+pub fn indexed(load: &Load) -> IndexedLoad {
     IndexedLoad {
         link: LinkId::new(load.id, load.link as usize),
         wrench: wrench(&load.wrench),

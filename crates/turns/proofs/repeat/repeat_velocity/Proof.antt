@@ -1,0 +1,48 @@
+use Prim.Native.Nat.{_-_, _≤_}
+use native.Mathlib.Omega.{arith}
+use mathlib.Core.Path.{_≡_, refl, _∙_}
+use lib.ListN.{length}
+use borrow.Author.Needs.{needs}
+use Rattle.turns.proofs.repeat.repeat_velocity.Statement.{statement}
+use Rattle.turns.proofs.repeat.repeat_velocity.Tie as tie
+
+abbrev Inv-loop : tie.InvT-loop
+Inv-loop turns mode model base positions entries speeds output₀ number₀ turn₀ output number turn = (turn ≤ turns) × (length output ≡ length output₀)
+
+abbrev μ-loop : tie.MeasureT-loop
+μ-loop turns mode model base positions entries speeds output₀ number₀ turn₀ output number turn = turns - turn
+
+loop-holds : tie.Need-loop-holds Inv-loop μ-loop
+loop-holds c = search needs
+
+velocity-product-forces-requires : tie.Need-velocity-product-forces-requires Inv-loop μ-loop
+velocity-product-forces-requires c κs = search needs
+
+add-turn : tie.Need-add-turn Inv-loop μ-loop
+add-turn c = search needs
+
+loop-less : tie.Need-loop-less Inv-loop μ-loop
+loop-less c = search needs
+
+loop-again : tie.Need-loop-again Inv-loop μ-loop
+loop-again c = search needs
+
+same-length : tie.Need-same-length Inv-loop μ-loop
+same-length c = search needs
+
+returns : tie.Need-returns Inv-loop μ-loop
+returns c = search needs
+
+pub repeat-velocity-spec : {M : Type 1} → statement M
+repeat-velocity-spec =
+    tie.close
+    (tie.spec
+    Inv-loop
+    μ-loop
+    loop-holds
+    velocity-product-forces-requires
+    add-turn
+    loop-less
+    loop-again
+    same-length
+    returns)
