@@ -2,7 +2,7 @@
 use Prim.Native.Nat.{ℕ}
 use mathlib.Core.List.{List}
 use lib.Ieee.{Float}
-use Rattle.model.specs.Flat.{modelView}
+use Rattle.model.specs.Flat.{Tables, viewOf, tablesOf}
 use Rattle.model.specs.View.{View}
 use Rattle.model.specs.declared.Model.{Model}
 use Rattle.model.specs.declared.BaseState.{BaseState}
@@ -24,13 +24,13 @@ pub record Call : Type 0 where
   -- the loads' first refusal, or their sums
   pub loads : LoadSums
 
--- over a model's tables
-abbrev pub callOf : Function → RootMode → Model → BaseState → List Pose → ℕ → List Float → List Float → LoadSums → Call
-callOf function mode model base positions entries speeds accelerations loads =
+-- over lent tables, with so many links and moving joints
+abbrev pub lentCall : Function → RootMode → Tables → ℕ → ℕ → BaseState → List Pose → ℕ → List Float → List Float → LoadSums → Call
+lentCall function mode tables count moving base positions entries speeds accelerations loads =
     record {
       function = function;
       mode = mode;
-      model = modelView model;
+      model = viewOf tables count moving;
       base = base;
       positions = positions;
       entries = entries;
@@ -38,3 +38,7 @@ callOf function mode model base positions entries speeds accelerations loads =
       accelerations = accelerations;
       loads = loads;
     }
+
+-- over a model's tables
+abbrev pub callOf : Function → RootMode → Model → BaseState → List Pose → ℕ → List Float → List Float → LoadSums → Call
+callOf function mode model = lentCall function mode (tablesOf model) (model .count) (model .moving)

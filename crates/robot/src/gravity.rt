@@ -2,7 +2,8 @@
 ghost use mathlib.Core.List.{[]};
 ghost use mathlib.Core.Path.{_≡_};
 ghost use Rattle.loads.specs.Sums.{flatSums, preparedSums};
-ghost use Rattle.robot.specs.Call.{callOf};
+ghost use Rattle.model.specs.Flat.{Sized, lent};
+ghost use Rattle.robot.specs.Call.{callOf, lentCall};
 ghost use Rattle.robot.specs.Outcome.{outcome, told};
 use crate::Function;
 use crate::checks::check_output;
@@ -23,26 +24,31 @@ use model::RootMode;
 use model::number_of;
 use spatial::constants::standard_gravity;
 
-// Every call is answered: a refusal's number with the output as found, or the figures.
-pub fn gravity_core(
+// Over lent tables, for callers who hold a model or tables of its lengths: a refusal's number with the output as found, or the figures.
+pub fn gravity_lent<'a>(
     mode: RootMode,
-    model: Model,
+    links: &'a [f64],
+    joints: &'a [f64],
+    kinds: &'a [u8],
+    parents: &'a [usize],
+    numbers: &'a [usize],
+    count: usize,
+    moving: usize,
     base: BaseState,
     positions: [Pose; 63],
     entries: usize,
     loads: LoadSums,
     output: &mut [f64],
 ) -> u8
-    ensures { λ r. ⌜ told r (now (output .exit)) ≡ outcome (callOf Function.Gravity mode model base positions entries [] [] loads) (now (output .entry)) ⌝ }
+    requires { ⌜ Sized (lent (now links) (now joints) (now kinds) (now parents) (now numbers)) ⌝ }
+    ensures { λ r. ⌜ told r (now (output .exit)) ≡ outcome (lentCall Function.Gravity mode (lent (now (links .entry)) (now (joints .entry)) (now (kinds .entry)) (now (parents .entry)) (now (numbers .entry))) count moving base positions entries [] [] loads) (now (output .entry)) ⌝ }
 {
-    let count = model.count;
-    let moving = model.moving;
     let start = check_start(
-        &model.links,
-        &model.joints,
-        &model.kinds,
-        &model.parents,
-        &model.numbers,
+        links,
+        joints,
+        kinds,
+        parents,
+        numbers,
         count,
         moving,
         base,
@@ -65,11 +71,11 @@ pub fn gravity_core(
     let sums = loads.sums;
     solve_gravity(
         mode,
-        &model.links,
-        &model.joints,
-        &model.kinds,
-        &model.parents,
-        &model.numbers,
+        links,
+        joints,
+        kinds,
+        parents,
+        numbers,
         count,
         moving,
         base.frame.rotation,
@@ -79,6 +85,37 @@ pub fn gravity_core(
         output,
     );
     check_figures(output)
+}
+
+// The same over a model: every call is answered.
+pub fn gravity_core(
+    mode: RootMode,
+    model: Model,
+    base: BaseState,
+    positions: [Pose; 63],
+    entries: usize,
+    loads: LoadSums,
+    output: &mut [f64],
+) -> u8
+    ensures { λ r. ⌜ told r (now (output .exit)) ≡ outcome (callOf Function.Gravity mode model base positions entries [] [] loads) (now (output .entry)) ⌝ }
+{
+    let count = model.count;
+    let moving = model.moving;
+    gravity_lent(
+        mode,
+        &model.links,
+        &model.joints,
+        &model.kinds,
+        &model.parents,
+        &model.numbers,
+        count,
+        moving,
+        base,
+        positions,
+        entries,
+        loads,
+        output,
+    )
 }
 
 // The same over a lent table of loads in three parts, six numbers a load.

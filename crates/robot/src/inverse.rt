@@ -1,7 +1,8 @@
 // Inverse dynamics, fixed and floating.
 ghost use mathlib.Core.Path.{_≡_};
 ghost use Rattle.loads.specs.Sums.{flatSums, preparedSums};
-ghost use Rattle.robot.specs.Call.{callOf};
+ghost use Rattle.model.specs.Flat.{Sized, lent};
+ghost use Rattle.robot.specs.Call.{callOf, lentCall};
 ghost use Rattle.robot.specs.Outcome.{outcome, told};
 use crate::Function;
 use crate::checks::check_output;
@@ -22,10 +23,16 @@ use model::RootMode;
 use model::lists::check_list;
 use model::number_of;
 
-// Every call is answered: a refusal's number with the output as found, or the figures.
-pub fn inverse_dynamics_core<'a>(
+// Over lent tables, for callers who hold a model or tables of its lengths: a refusal's number with the output as found, or the figures.
+pub fn inverse_dynamics_lent<'a>(
     mode: RootMode,
-    model: Model,
+    links: &'a [f64],
+    joints: &'a [f64],
+    kinds: &'a [u8],
+    parents: &'a [usize],
+    numbers: &'a [usize],
+    count: usize,
+    moving: usize,
     base: BaseState,
     positions: [Pose; 63],
     entries: usize,
@@ -34,16 +41,15 @@ pub fn inverse_dynamics_core<'a>(
     loads: LoadSums,
     output: &mut [f64],
 ) -> u8
-    ensures { λ r. ⌜ told r (now (output .exit)) ≡ outcome (callOf Function.InverseDynamics mode model base positions entries (now (speeds .entry)) (now (accelerations .entry)) loads) (now (output .entry)) ⌝ }
+    requires { ⌜ Sized (lent (now links) (now joints) (now kinds) (now parents) (now numbers)) ⌝ }
+    ensures { λ r. ⌜ told r (now (output .exit)) ≡ outcome (lentCall Function.InverseDynamics mode (lent (now (links .entry)) (now (joints .entry)) (now (kinds .entry)) (now (parents .entry)) (now (numbers .entry))) count moving base positions entries (now (speeds .entry)) (now (accelerations .entry)) loads) (now (output .entry)) ⌝ }
 {
-    let count = model.count;
-    let moving = model.moving;
     let start = check_start(
-        &model.links,
-        &model.joints,
-        &model.kinds,
-        &model.parents,
-        &model.numbers,
+        links,
+        joints,
+        kinds,
+        parents,
+        numbers,
         count,
         moving,
         base,
@@ -74,11 +80,11 @@ pub fn inverse_dynamics_core<'a>(
     let sums = loads.sums;
     solve_inverse(
         mode,
-        &model.links,
-        &model.joints,
-        &model.kinds,
-        &model.parents,
-        &model.numbers,
+        links,
+        joints,
+        kinds,
+        parents,
+        numbers,
         count,
         moving,
         base.frame.rotation,
@@ -90,6 +96,41 @@ pub fn inverse_dynamics_core<'a>(
         output,
     );
     check_figures(output)
+}
+
+// The same over a model: every call is answered.
+pub fn inverse_dynamics_core<'a>(
+    mode: RootMode,
+    model: Model,
+    base: BaseState,
+    positions: [Pose; 63],
+    entries: usize,
+    speeds: &'a [f64],
+    accelerations: &'a [f64],
+    loads: LoadSums,
+    output: &mut [f64],
+) -> u8
+    ensures { λ r. ⌜ told r (now (output .exit)) ≡ outcome (callOf Function.InverseDynamics mode model base positions entries (now (speeds .entry)) (now (accelerations .entry)) loads) (now (output .entry)) ⌝ }
+{
+    let count = model.count;
+    let moving = model.moving;
+    inverse_dynamics_lent(
+        mode,
+        &model.links,
+        &model.joints,
+        &model.kinds,
+        &model.parents,
+        &model.numbers,
+        count,
+        moving,
+        base,
+        positions,
+        entries,
+        speeds,
+        accelerations,
+        loads,
+        output,
+    )
 }
 
 // The same over a lent table of loads in three parts, six numbers a load.

@@ -2,7 +2,8 @@
 ghost use mathlib.Core.List.{[]};
 ghost use mathlib.Core.Path.{_≡_};
 ghost use Rattle.loads.specs.Sums.{startSums};
-ghost use Rattle.robot.specs.Call.{callOf};
+ghost use Rattle.model.specs.Flat.{Sized, lent};
+ghost use Rattle.robot.specs.Call.{callOf, lentCall};
 ghost use Rattle.robot.specs.Outcome.{outcome, told};
 use crate::Function;
 use crate::checks::check_output;
@@ -21,26 +22,31 @@ use model::RootMode;
 use model::lists::check_list;
 use model::number_of;
 
-// Every call is answered: a refusal's number with the output as found, or the figures.
-pub fn velocity_product_forces<'a>(
+// Over lent tables, for callers who hold a model or tables of its lengths: a refusal's number with the output as found, or the figures.
+pub fn velocity_product_forces_lent<'a>(
     mode: RootMode,
-    model: Model,
+    links: &'a [f64],
+    joints: &'a [f64],
+    kinds: &'a [u8],
+    parents: &'a [usize],
+    numbers: &'a [usize],
+    count: usize,
+    moving: usize,
     base: BaseState,
     positions: [Pose; 63],
     entries: usize,
     speeds: &'a [f64],
     output: &mut [f64],
 ) -> u8
-    ensures { λ r. ⌜ told r (now (output .exit)) ≡ outcome (callOf Function.VelocityProduct mode model base positions entries (now (speeds .entry)) [] startSums) (now (output .entry)) ⌝ }
+    requires { ⌜ Sized (lent (now links) (now joints) (now kinds) (now parents) (now numbers)) ⌝ }
+    ensures { λ r. ⌜ told r (now (output .exit)) ≡ outcome (lentCall Function.VelocityProduct mode (lent (now (links .entry)) (now (joints .entry)) (now (kinds .entry)) (now (parents .entry)) (now (numbers .entry))) count moving base positions entries (now (speeds .entry)) [] startSums) (now (output .entry)) ⌝ }
 {
-    let count = model.count;
-    let moving = model.moving;
     let begun = check_start(
-        &model.links,
-        &model.joints,
-        &model.kinds,
-        &model.parents,
-        &model.numbers,
+        links,
+        joints,
+        kinds,
+        parents,
+        numbers,
         count,
         moving,
         base,
@@ -65,11 +71,11 @@ pub fn velocity_product_forces<'a>(
     let sums = none.sums;
     solve_inverse(
         mode,
-        &model.links,
-        &model.joints,
-        &model.kinds,
-        &model.parents,
-        &model.numbers,
+        links,
+        joints,
+        kinds,
+        parents,
+        numbers,
         count,
         moving,
         base.frame.rotation,
@@ -81,4 +87,35 @@ pub fn velocity_product_forces<'a>(
         output,
     );
     check_figures(output)
+}
+
+// The same over a model: every call is answered.
+pub fn velocity_product_forces<'a>(
+    mode: RootMode,
+    model: Model,
+    base: BaseState,
+    positions: [Pose; 63],
+    entries: usize,
+    speeds: &'a [f64],
+    output: &mut [f64],
+) -> u8
+    ensures { λ r. ⌜ told r (now (output .exit)) ≡ outcome (callOf Function.VelocityProduct mode model base positions entries (now (speeds .entry)) [] startSums) (now (output .entry)) ⌝ }
+{
+    let count = model.count;
+    let moving = model.moving;
+    velocity_product_forces_lent(
+        mode,
+        &model.links,
+        &model.joints,
+        &model.kinds,
+        &model.parents,
+        &model.numbers,
+        count,
+        moving,
+        base,
+        positions,
+        entries,
+        speeds,
+        output,
+    )
 }

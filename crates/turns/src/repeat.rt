@@ -1,16 +1,14 @@
-// Each function called so many times over on the same arguments; the last turn's number, 0 after none.
-ghost use mathlib.Core.Path.{_≡_};
-ghost use Prim.Native.Nat.{_≤_};
+// Each function called so many times over on a model's lent tables; the last turn's number, 0 after none.
+use loads::sums::prepare_indexed_loads;
 use model::BaseState;
-use model::Checked;
 use model::Model;
 use model::Pose;
 use model::RootMode;
 use model::number_of;
-use model::tables::check_model;
-use robot::gravity::gravity_flat;
-use robot::inverse::inverse_dynamics_flat;
-use robot::velocity::velocity_product_forces;
+use model::tables::check_tables;
+use robot::gravity::gravity_lent;
+use robot::inverse::inverse_dynamics_lent;
+use robot::velocity::velocity_product_forces_lent;
 
 pub fn repeat_inverse<'a>(
     turns: usize,
@@ -22,24 +20,31 @@ pub fn repeat_inverse<'a>(
     speeds: &'a [f64],
     accelerations: &'a [f64],
     ids: &'a [u64],
-    links: &'a [usize],
-    numbers: &'a [f64],
+    bearers: &'a [usize],
+    wrenches: &'a [f64],
     output: &mut [f64],
 ) -> u8 {
+    let count = model.count;
+    let moving = model.moving;
     let mut number = 0;
     let mut turn = 0;
     while turn < turns {
-        number = inverse_dynamics_flat(
+        let sums = prepare_indexed_loads(0, count, ids, bearers, wrenches);
+        number = inverse_dynamics_lent(
             mode,
-            model,
+            &model.links,
+            &model.joints,
+            &model.kinds,
+            &model.parents,
+            &model.numbers,
+            count,
+            moving,
             base,
             positions,
             entries,
             speeds,
             accelerations,
-            ids,
-            links,
-            numbers,
+            sums,
             output,
         );
         turn += 1;
@@ -55,22 +60,29 @@ pub fn repeat_gravity<'a>(
     positions: [Pose; 63],
     entries: usize,
     ids: &'a [u64],
-    links: &'a [usize],
-    numbers: &'a [f64],
+    bearers: &'a [usize],
+    wrenches: &'a [f64],
     output: &mut [f64],
 ) -> u8 {
+    let count = model.count;
+    let moving = model.moving;
     let mut number = 0;
     let mut turn = 0;
     while turn < turns {
-        number = gravity_flat(
+        let sums = prepare_indexed_loads(0, count, ids, bearers, wrenches);
+        number = gravity_lent(
             mode,
-            model,
+            &model.links,
+            &model.joints,
+            &model.kinds,
+            &model.parents,
+            &model.numbers,
+            count,
+            moving,
             base,
             positions,
             entries,
-            ids,
-            links,
-            numbers,
+            sums,
             output,
         );
         turn += 1;
@@ -88,20 +100,46 @@ pub fn repeat_velocity<'a>(
     speeds: &'a [f64],
     output: &mut [f64],
 ) -> u8 {
+    let count = model.count;
+    let moving = model.moving;
     let mut number = 0;
     let mut turn = 0;
     while turn < turns {
-        number = velocity_product_forces(mode, model, base, positions, entries, speeds, output);
+        number = velocity_product_forces_lent(
+            mode,
+            &model.links,
+            &model.joints,
+            &model.kinds,
+            &model.parents,
+            &model.numbers,
+            count,
+            moving,
+            base,
+            positions,
+            entries,
+            speeds,
+            output,
+        );
         turn += 1;
     }
     number
 }
 
 pub fn repeat_check(turns: usize, model: Model) -> u8 {
+    let count = model.count;
+    let moving = model.moving;
     let mut number = 0;
     let mut turn = 0;
     while turn < turns {
-        number = number_of(check_model(model));
+        number = number_of(check_tables(
+            &model.links,
+            &model.joints,
+            &model.kinds,
+            &model.parents,
+            &model.numbers,
+            count,
+            moving,
+        ));
         turn += 1;
     }
     number

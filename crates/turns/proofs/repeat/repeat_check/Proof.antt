@@ -1,20 +1,19 @@
 use Prim.Native.Nat.{_-_, _≤_}
-use native.Mathlib.Omega.{arith}
 use borrow.Author.Needs.{needs}
 use Rattle.turns.proofs.repeat.repeat_check.Statement.{statement}
 use Rattle.turns.proofs.repeat.repeat_check.Tie as tie
 
 abbrev Inv-loop : tie.InvT-loop
-Inv-loop turns model number₀ turn₀ number turn = turn ≤ turns
+Inv-loop turns model count moving number₀ turn₀ number turn = turn ≤ turns
 
 abbrev μ-loop : tie.MeasureT-loop
-μ-loop turns model number₀ turn₀ number turn = turns - turn
+μ-loop turns model count moving number₀ turn₀ number turn = turns - turn
 
 loop-holds : tie.Need-loop-holds Inv-loop μ-loop
 loop-holds c = search needs
 
-check-model-requires : tie.Need-check-model-requires Inv-loop μ-loop
-check-model-requires c κs = search needs
+check-tables-requires : tie.Need-check-tables-requires Inv-loop μ-loop
+check-tables-requires c κs = search needs
 
 number-of-requires : tie.Need-number-of-requires Inv-loop μ-loop
 number-of-requires c κs = search needs
@@ -38,7 +37,7 @@ repeat-check-spec =
     Inv-loop
     μ-loop
     loop-holds
-    check-model-requires
+    check-tables-requires
     number-of-requires
     add-turn
     loop-less

@@ -1,22 +1,24 @@
 use Prim.Native.Nat.{_-_, _≤_}
-use native.Mathlib.Omega.{arith}
-use mathlib.Core.Path.{_≡_, refl, _∙_}
+use mathlib.Core.Path.{_≡_}
 use lib.ListN.{length}
 use borrow.Author.Needs.{needs}
 use Rattle.turns.proofs.repeat.repeat_gravity.Statement.{statement}
 use Rattle.turns.proofs.repeat.repeat_gravity.Tie as tie
 
 abbrev Inv-loop : tie.InvT-loop
-Inv-loop turns mode model base positions entries ids links numbers output₀ number₀ turn₀ output number turn = (turn ≤ turns) × (length output ≡ length output₀)
+Inv-loop turns mode base positions entries ids bearers wrenches output₀ model count moving number₀ turn₀ output number turn = (turn ≤ turns) × (length output ≡ length output₀)
 
 abbrev μ-loop : tie.MeasureT-loop
-μ-loop turns mode model base positions entries ids links numbers output₀ number₀ turn₀ output number turn = turns - turn
+μ-loop turns mode base positions entries ids bearers wrenches output₀ model count moving number₀ turn₀ output number turn = turns - turn
 
 loop-holds : tie.Need-loop-holds Inv-loop μ-loop
 loop-holds c = search needs
 
-gravity-flat-requires : tie.Need-gravity-flat-requires Inv-loop μ-loop
-gravity-flat-requires c κs = search needs
+prepare-indexed-loads-requires : tie.Need-prepare-indexed-loads-requires Inv-loop μ-loop
+prepare-indexed-loads-requires c κs = search needs
+
+gravity-lent-requires : tie.Need-gravity-lent-requires Inv-loop μ-loop
+gravity-lent-requires c κs = search needs
 
 add-turn : tie.Need-add-turn Inv-loop μ-loop
 add-turn c = search needs
@@ -40,7 +42,8 @@ repeat-gravity-spec =
     Inv-loop
     μ-loop
     loop-holds
-    gravity-flat-requires
+    prepare-indexed-loads-requires
+    gravity-lent-requires
     add-turn
     loop-less
     loop-again

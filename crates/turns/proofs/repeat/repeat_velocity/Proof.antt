@@ -1,22 +1,22 @@
 use Prim.Native.Nat.{_-_, _≤_}
-use native.Mathlib.Omega.{arith}
-use mathlib.Core.Path.{_≡_, refl, _∙_}
+use mathlib.Core.Path.{_≡_}
 use lib.ListN.{length}
 use borrow.Author.Needs.{needs}
 use Rattle.turns.proofs.repeat.repeat_velocity.Statement.{statement}
 use Rattle.turns.proofs.repeat.repeat_velocity.Tie as tie
 
 abbrev Inv-loop : tie.InvT-loop
-Inv-loop turns mode model base positions entries speeds output₀ number₀ turn₀ output number turn = (turn ≤ turns) × (length output ≡ length output₀)
+Inv-loop turns mode base positions entries speeds output₀ model count moving number₀ turn₀ output number turn = (turn ≤ turns) × (length output ≡ length output₀)
 
 abbrev μ-loop : tie.MeasureT-loop
-μ-loop turns mode model base positions entries speeds output₀ number₀ turn₀ output number turn = turns - turn
+μ-loop turns mode base positions entries speeds output₀ model count moving number₀ turn₀ output number turn = turns - turn
 
 loop-holds : tie.Need-loop-holds Inv-loop μ-loop
 loop-holds c = search needs
 
-velocity-product-forces-requires : tie.Need-velocity-product-forces-requires Inv-loop μ-loop
-velocity-product-forces-requires c κs = search needs
+velocity-product-forces-lent-requires :
+    tie.Need-velocity-product-forces-lent-requires Inv-loop μ-loop
+velocity-product-forces-lent-requires c κs = search needs
 
 add-turn : tie.Need-add-turn Inv-loop μ-loop
 add-turn c = search needs
@@ -40,7 +40,7 @@ repeat-velocity-spec =
     Inv-loop
     μ-loop
     loop-holds
-    velocity-product-forces-requires
+    velocity-product-forces-lent-requires
     add-turn
     loop-less
     loop-again
