@@ -1,8 +1,8 @@
 -- What the kernels leave over a model's tables is what the definition gives of the call.
-use Prim.Native.Nat.{ℕ, zero, suc, _<_, _≤_}
+use Prim.Native.Nat.{ℕ, zero, suc, _<_}
 use mathlib.Core.Bool.{true}
-use mathlib.Core.List.{List, [], _∷_, _++_}
-use mathlib.Core.Path.{_≡_, refl, sym, ap, _∙_}
+use mathlib.Core.List.{List, [], _++_}
+use mathlib.Core.Path.{_≡_, refl, ap, _∙_}
 use native.Mathlib.Omega.{arith}
 use lib.ListN.{getD, getD-replicate}
 use lib.Ieee.{Float, nan}
@@ -133,11 +133,8 @@ module _ (model : Model) (good : GoodModel (modelView model)) (ps : List Pose) (
           loads = zero-load;
         }
 
-    coasting-figures : (root : Motion) → root ≡ rootMotion (base .frame .rotation) (inMode mode (base .velocity)) zeroTwist zeroVector → solvedList mode (base .frame .rotation) (tablesOf model) (model .count) (model .moving) coasting (inverseOf coasting root) ≡ figures product
+    pub velocity-figures : (root : Motion) → root ≡ rootMotion (base .frame .rotation) (inMode mode (base .velocity)) zeroTwist zeroVector → solvedList mode (base .frame .rotation) (tablesOf model) (model .count) (model .moving) coasting (inverseOf coasting root) ≡ figures product
     unfolding figures
-    coasting-figures root e =
+    velocity-figures root e =
         solved-same mode (base .frame .rotation) view (good .numbers) coasting (still product) _ _ refl
         (inverse-alike coasting (still product) (model .moving) (fit-good (tablesOf model) (model .count) (model .moving) table speeds noAccelerations (startSums .sums) good) root _ (velocity-run root _ e))
-
-    pub velocity-figures : (accelerations : List Float) (sums : List Wrench) → accelerations ≡ noAccelerations → sums ≡ startSums .sums → (root : Motion) → root ≡ rootMotion (base .frame .rotation) (inMode mode (base .velocity)) zeroTwist zeroVector → (let run = Flat.runOf (tablesOf model) (model .count) table speeds accelerations sums in solvedList mode (base .frame .rotation) (tablesOf model) (model .count) (model .moving) run (inverseOf run root)) ≡ figures product
-    velocity-figures accelerations sums a l root e = rw (a, l) (coasting-figures root e)

@@ -10,10 +10,8 @@ use crate::checks::check_output;
 use crate::checks::check_start;
 use crate::poses::pose_table;
 use crate::roots::check_figures;
-use crate::roots::no_accelerations;
 use crate::roots::velocity_root;
-use crate::solve::solve_inverse;
-use loads::sums::start;
+use crate::solve::solve_velocity;
 use model::BaseState;
 use model::Checked;
 use model::Model;
@@ -66,10 +64,7 @@ pub fn velocity_product_forces_lent<'a>(
     };
     let root = velocity_root(mode, base);
     let poses = pose_table(positions, entries);
-    let accelerations = no_accelerations();
-    let none = start();
-    let sums = none.sums;
-    solve_inverse(
+    solve_velocity(
         mode,
         links,
         joints,
@@ -82,8 +77,6 @@ pub fn velocity_product_forces_lent<'a>(
         root,
         &poses,
         speeds,
-        &accelerations,
-        sums,
         output,
     );
     check_figures(output)

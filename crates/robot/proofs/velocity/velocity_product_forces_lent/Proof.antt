@@ -1,5 +1,5 @@
 use borrow.Author.Needs.{needs}
-use mathlib.Core.Path.{_≡_, refl, sym, ap, _∙_}
+use mathlib.Core.Path.{_≡_, refl, sym, _∙_}
 use lib.Ieee.{Float}
 use lib.ListN.{length}
 use mathlib.Core.List.{List, []}
@@ -21,8 +21,6 @@ use Rattle.robot.proofs.FigureLaws.{velocity-figures}
 use Rattle.robot.proofs.TableLaws.{tabled-end}
 use Prim.Native.Nat.{_≤_, _*_}
 use Rattle.loads.specs.Sums.{startSums}
-use Rattle.loads.specs.declared.LoadSums.{LoadSums}
-use Rattle.robot.specs.Table.{noAccelerations}
 use Rattle.robot.proofs.velocity.velocity_product_forces_lent.Statement.{statement}
 use Rattle.robot.proofs.velocity.velocity_product_forces_lent.Tie as tie
 
@@ -64,10 +62,6 @@ speeded a = sym (a .before .before .check-list .ensures) ∙ a .enum-told2 .give
 
 placed : (a : tie.After-enum-told3) → (let s = a .before .before .before .before .before .before .before .before .before .before .before .before .before .before .before .before in outputChecked (s .args .mode) (s .args .moving) (length (s .args .output .now)) ≡ Good)
 placed a = sym (a .before .before .check-output .ensures) ∙ a .enum-told3 .given .1
-
-long : length noAccelerations ≡ 63
-unfolding noAccelerations
-long = refl
 
 check-start-requires : tie.Need-check-start-requires
 check-start-requires c κs = search needs
@@ -111,32 +105,20 @@ velocity-root-requires c κs = search needs
 pose-table-requires : tie.Need-pose-table-requires
 pose-table-requires c κs = few (c .before .before .before .before .before .before .before)
 
-no-accelerations-requires : tie.Need-no-accelerations-requires
-no-accelerations-requires c κs = search needs
+slice-aggregate-solve-velocity : tie.Need-slice-aggregate-solve-velocity
+slice-aggregate-solve-velocity c = search needs
 
-start-requires : tie.Need-start-requires
-start-requires c κs = search needs
-
-slice-aggregate-solve-inverse : tie.Need-slice-aggregate-solve-inverse
-slice-aggregate-solve-inverse c = search needs
-
-slice-aggregate-solve-inverse-2 : tie.Need-slice-aggregate-solve-inverse-2
-slice-aggregate-solve-inverse-2 c = search needs
-
-solve-inverse-requires : tie.Need-solve-inverse-requires
-solve-inverse-requires c κs =
-    let s = c .before .before .before .before .before .before .before .before .before .before .before .before .before .before .before .before .before .before .before .before .before .before .before .before in
-    let a = c .before .before .before .before .before .before .before .before .before .before .before .before .before .before in
-    let v = list-length _ _ (speeded (c .before .before .before .before .before .before .before .before .before .before .before)) in
-    let n = c .before .before .before .before .before .no-accelerations in
-    let z : length (n .result) ≡ 63 = ap length (n .ensures) ∙ long in
-    let p = c .before .before .before .before .before .before .pose-table in (
+solve-velocity-requires : tie.Need-solve-velocity-requires
+solve-velocity-requires c κs =
+    let s = c .before .before .before .before .before .before .before .before .before .before .before .before .before .before .before .before .before .before .before .before in
+    let a = c .before .before .before .before .before .before .before .before .before .before in
+    let v = list-length _ _ (speeded (c .before .before .before .before .before .before .before)) in
+    let p = c .before .before .pose-table in (
       s .pre,
       good a,
       room a (p .result) (p .ensures .0),
       omega (arith, v),
-      omega (arith, z, few-moving _ (good a)),
-      output-length (s .args .mode) (s .args .moving) (length (s .args .output .now)) (placed (c .before .before .before .before .before .before .before .before)),
+      output-length (s .args .mode) (s .args .moving) (length (s .args .output .now)) (placed (c .before .before .before .before)),
     )
 
 check-figures-requires : tie.Need-check-figures-requires
@@ -147,13 +129,12 @@ same-length c = search needs
 
 returns-4 : tie.Need-returns-4
 returns-4 c =
-    let s = c .before .before .before .before .before .before .before .before .before .before .before .before .before .before .before .before .before .before .before .before .before .before .before .before .before .before .before .before .before in
-    let a = c .before .before .before .before .before .before .before .before .before .before .before .before .before .before .before .before .before .before .before in
-    let p = c .before .before .before .before .before .before .before .before .before .before .before .pose-table in
-    go-on (call s) (s .args .output .now) (started a) (speeded (c .before .before .before .before .before .before .before .before .before .before .before .before .before .before .before .before)) refl (placed (c .before .before .before .before .before .before .before .before .before .before .before .before .before)) refl _ _
-    (c .before .before .before .before .solve-inverse .ensures
-    ∙ velocity-figures (model s) (good a) (s .args .positions) (s .args .entries) (positions-good _ _ _ _ (started a)) (p .result) (tabled-end _ _ _ _ (omega (arith, all a)) (p .ensures .1)) (s .args .mode) (s .args .base) (s .args .speeds .now)
-    _ _ (c .before .before .before .before .before .before .before .before .before .before .no-accelerations .ensures) (ap (λ (x : LoadSums). x .sums) (c .before .before .before .before .before .before .before .before .before .start .ensures)) _ (c .before .before .before .before .before .before .before .before .before .before .before .before .velocity-root .ensures))
+    let s = c .before .before .before .before .before .before .before .before .before .before .before .before .before .before .before .before .before .before .before .before .before .before .before .before .before in
+    let a = c .before .before .before .before .before .before .before .before .before .before .before .before .before .before .before in
+    let p = c .before .before .before .before .before .before .before .pose-table in
+    go-on (call s) (s .args .output .now) (started a) (speeded (c .before .before .before .before .before .before .before .before .before .before .before .before)) refl (placed (c .before .before .before .before .before .before .before .before .before)) refl _ _
+    (c .before .before .before .before .solve-velocity .ensures
+    ∙ velocity-figures (model s) (good a) (s .args .positions) (s .args .entries) (positions-good _ _ _ _ (started a)) (p .result) (tabled-end _ _ _ _ (omega (arith, all a)) (p .ensures .1)) (s .args .mode) (s .args .base) (s .args .speeds .now) _ (c .before .before .before .before .before .before .before .before .velocity-root .ensures))
     (c .check-figures .ensures)
 
 pub velocity-product-forces-lent-spec : {M : Type 1} → statement M
@@ -174,11 +155,8 @@ velocity-product-forces-lent-spec =
     returns-3
     velocity-root-requires
     pose-table-requires
-    no-accelerations-requires
-    start-requires
-    slice-aggregate-solve-inverse
-    slice-aggregate-solve-inverse-2
-    solve-inverse-requires
+    slice-aggregate-solve-velocity
+    solve-velocity-requires
     check-figures-requires
     same-length
     returns-4)
