@@ -28,88 +28,101 @@ mod timing;
 mod tree;
 
 use cases::{FUNCTIONS, MODES, SHAPES, made};
-use sides::{given, given_check, same_figures};
-use timing::{fit, turn_about};
+use sides::{given, given_check, our_check, ours, same_figures};
+use timing::{Timed, fit, rounds};
 
-/// A function's name, and what both sides take for it at one shape and size.
-fn row(function: u8, mode: u8, shape: usize, count: usize) {
+/// The sizes that are told one by one.
+const COUNTS: [usize; 3] = [7, 16, 64];
+
+/// A function, a mode, a tree and a link count.
+type Row = (u8, u8, usize, usize);
+
+/// The call of a row on both sides, which must agree to the bit.
+fn timed(&(function, mode, shape, count): &Row) -> Timed {
     let case = made(function, mode, shape, count);
     let input = records::write(&case);
     same_figures(&case, &input);
     let mut output = case.output.clone();
-    let mut theirs = given(&case);
-    let (ours, given) = turn_about(
-        |turns| sides::ours(&input, turns, &mut output),
-        |turns| theirs(turns),
-    );
-    println!(
-        "| {} | {} | {} | {count} | {ours:.0} | {given:.0} | {:.2} |",
-        FUNCTIONS[function as usize - 1],
-        MODES[mode as usize],
-        SHAPES[shape].0,
-        ours / given
-    );
+    let ours = Box::new(move |turns| ours(&input, turns, &mut output));
+    Timed::new(ours, given(&case))
 }
 
-/// The model check alone, at one size of chain.
-fn check_row(count: usize) {
-    let case = made(1, 0, 0, count);
+/// The model check alone, on a chain.
+fn checked(count: &usize) -> Timed {
+    let case = made(1, 0, 0, *count);
     let input = records::write(&case);
-    let (ours, given) = turn_about(
-        |turns| sides::our_check(&input, turns),
-        |turns| given_check(&case, turns),
-    );
-    println!("| {count} | {ours:.0} | {given:.0} | {:.2} |", ours / given);
+    Timed::new(
+        Box::new(move |turns| our_check(&input, turns)),
+        Box::new(move |turns| given_check(&case, turns)),
+    )
 }
 
-/// Nanoseconds per link and the part that does not depend on links, over chains of 1 to 64 links.
-fn fit_row(function: u8, mode: u8) {
-    let mut points = (vec![], vec![]);
-    for count in 1..=64 {
-        let case = made(function, mode, 0, count);
-        let input = records::write(&case);
-        let mut output = case.output.clone();
-        let mut theirs = given(&case);
-        let (ours, given) = turn_about(
-            |turns| sides::ours(&input, turns, &mut output),
-            |turns| theirs(turns),
+/// Each function in each mode.
+fn calls() -> impl Iterator<Item = (u8, u8)> {
+    (1..=3).flat_map(|function| (0..=1).map(move |mode| (function, mode)))
+}
+
+/// Every call at the three sizes.
+fn tell_calls() {
+    let rows: Vec<Row> = calls()
+        .flat_map(|(function, mode)| {
+            (0..SHAPES.len()).flat_map(move |shape| COUNTS.map(|n| (function, mode, shape, n)))
+        })
+        .collect();
+    let mut list: Vec<Timed> = rows.iter().map(timed).collect();
+    rounds(&mut list);
+    println!("| function | mode | tree | links | ours, ns | given Rust, ns | ratio |");
+    println!("|---|---|---|---|---|---|---|");
+    for (&(function, mode, shape, count), time) in rows.iter().zip(&mut list) {
+        let (function, mode) = (FUNCTIONS[function as usize - 1], MODES[mode as usize]);
+        let (ours, given) = time.least;
+        println!(
+            "| {function} | {mode} | {} | {count} | {ours:.0} | {given:.0} | {:.2} |",
+            SHAPES[shape].0,
+            time.ratio()
         );
-        points.0.push((count as f64, ours));
-        points.1.push((count as f64, given));
     }
-    let (ours, given) = (fit(&points.0), fit(&points.1));
+}
+
+/// The model check at the three sizes.
+fn tell_checks() {
+    let mut list: Vec<Timed> = COUNTS.iter().map(checked).collect();
+    rounds(&mut list);
+    println!("\n| links | our model check, ns | the oracle's, ns | ratio |");
+    println!("|---|---|---|---|");
+    for (count, time) in COUNTS.iter().zip(&mut list) {
+        let (ours, given) = time.least;
+        println!("| {count} | {ours:.0} | {given:.0} | {:.2} |", time.ratio());
+    }
+}
+
+/// Nanoseconds for each link and besides, over chains of 1 to 64 links.
+fn tell_fits() {
     println!(
-        "| {} | {} | {:.1} | {:.0} | {:.1} | {:.0} |",
-        FUNCTIONS[function as usize - 1],
-        MODES[mode as usize],
-        ours.0,
-        ours.1,
-        given.0,
-        given.1
+        "\n| function | mode | ours, ns a link | ours, ns besides | given, ns a link | given, ns besides |"
     );
+    println!("|---|---|---|---|---|---|");
+    for (function, mode) in calls() {
+        let rows = (1..=64).map(|count| (function, mode, 0, count));
+        let mut list: Vec<Timed> = rows.map(|row| timed(&row)).collect();
+        rounds(&mut list);
+        let points = |side: fn(&Timed) -> f64| {
+            let links = list.iter().enumerate();
+            fit(&links
+                .map(|(at, time)| (at as f64 + 1.0, side(time)))
+                .collect::<Vec<_>>())
+        };
+        let (ours, given) = (points(|time| time.least.0), points(|time| time.least.1));
+        let (function, mode) = (FUNCTIONS[function as usize - 1], MODES[mode as usize]);
+        println!(
+            "| {function} | {mode} | {:.1} | {:.0} | {:.1} | {:.0} |",
+            ours.0, ours.1, given.0, given.1
+        );
+    }
 }
 
 fn main() {
-    println!("| function | mode | tree | links | ours, ns | given Rust, ns | ratio |");
-    println!("|---|---|---|---|---|---|---|");
-    for function in 1..=3 {
-        for mode in 0..=1 {
-            for shape in 0..SHAPES.len() {
-                for count in [7, 16, 64] {
-                    row(function, mode, shape, count);
-                }
-            }
-        }
-    }
-    println!("\n| links | our model check, ns | the oracle's, ns | ratio |\n|---|---|---|---|");
-    for count in [7, 16, 64] {
-        check_row(count);
-    }
-    println!("\n| function | mode | ours, ns per link | ours, ns besides | given, ns per link | given, ns besides |");
-    println!("|---|---|---|---|---|---|");
-    for function in 1..=3 {
-        for mode in 0..=1 {
-            fit_row(function, mode);
-        }
-    }
+    tell_calls();
+    tell_checks();
+    tell_fits();
 }

@@ -1,37 +1,71 @@
-//! How long a turn takes, and the line through many such times.
+//! How long a turn takes on each side, and the line through many such times.
 
 use std::time::Instant;
 
-/// How many times each side is timed, and how long each time lasts, in nanoseconds.
-const SAMPLES: usize = 15;
-const LASTING: f64 = 1e6;
+/// How often the whole list is gone through, and how long each timing lasts, in nanoseconds.
+const ROUNDS: usize = 25;
+const LASTING: f64 = 4e5;
+
+/// So many turns of a call; the last one's number.
+pub type Side = Box<dyn FnMut(usize) -> u8>;
+
+/// A call on both sides, with how many turns of it each timing takes, the least times and every ratio.
+pub struct Timed {
+    ours: Side,
+    given: Side,
+    turns: (usize, usize),
+    pub least: (f64, f64),
+    ratios: Vec<f64>,
+}
 
 /// Nanoseconds of one turn in a run of so many.
-fn once(side: &mut dyn FnMut(usize) -> u8, turns: usize) -> f64 {
+fn once(side: &mut Side, turns: usize) -> f64 {
     let start = Instant::now();
     assert_eq!(side(turns), 0, "refused");
     start.elapsed().as_nanos() as f64 / turns as f64
 }
 
-/// The least time of each side; the sides are timed turn about.
-pub fn turn_about(
-    mut ours: impl FnMut(usize) -> u8,
-    mut given: impl FnMut(usize) -> u8,
-) -> (f64, f64) {
-    let turns = |side: &mut dyn FnMut(usize) -> u8| (LASTING / once(side, 500)) as usize + 1;
-    let (many, much) = (turns(&mut ours), turns(&mut given));
-    let mut least = (f64::MAX, f64::MAX);
-    for _ in 0..SAMPLES {
-        least.0 = least.0.min(once(&mut ours, many));
-        least.1 = least.1.min(once(&mut given, much));
+impl Timed {
+    /// Not timed yet.
+    pub fn new(mut ours: Side, mut given: Side) -> Self {
+        let turns = |side: &mut Side| (LASTING / once(side, 500)) as usize + 1;
+        Self {
+            turns: (turns(&mut ours), turns(&mut given)),
+            ours,
+            given,
+            least: (f64::MAX, f64::MAX),
+            ratios: vec![],
+        }
     }
-    least
+
+    /// Both sides, one right after the other.
+    fn again(&mut self) {
+        let ours = once(&mut self.ours, self.turns.0);
+        let given = once(&mut self.given, self.turns.1);
+        self.least = (self.least.0.min(ours), self.least.1.min(given));
+        self.ratios.push(ours / given);
+    }
+
+    /// The middle one of the ratios.
+    pub fn ratio(&mut self) -> f64 {
+        self.ratios.sort_by(f64::total_cmp);
+        self.ratios[self.ratios.len() / 2]
+    }
+}
+
+/// Times every call of a list in rounds, so that a slow moment of the machine falls on no call alone.
+pub fn rounds(list: &mut [Timed]) {
+    for _ in 0..ROUNDS {
+        list.iter_mut().for_each(Timed::again);
+    }
 }
 
 /// Slope and start of the line with the least squares.
 pub fn fit(points: &[(f64, f64)]) -> (f64, f64) {
     let n = points.len() as f64;
-    let (x, y) = points.iter().fold((0.0, 0.0), |s, p| (s.0 + p.0 / n, s.1 + p.1 / n));
+    let (x, y) = points
+        .iter()
+        .fold((0.0, 0.0), |s, p| (s.0 + p.0 / n, s.1 + p.1 / n));
     let (over, under) = points.iter().fold((0.0, 0.0), |s, p| {
         (s.0 + (p.0 - x) * (p.1 - y), s.1 + (p.0 - x) * (p.0 - x))
     });
