@@ -7,7 +7,7 @@ use lib.ListN.{set, length, take, drop, length-drop}
 use lib.Seq.{drop-at, length-take-le, drop-length}
 use lib.Ieee.{Float}
 use borrow.Rule.Slice.PartMut.{putMid, postOf, post-is}
-use Rattle.spatial.specs.Finite.{wrenchNumbers}
+use Rattle.fit.specs.Finite.{wrenchNumbers}
 use Rattle.spatial.specs.Wrenches.{worldWrench}
 use Rattle.spatial.specs.declared.Quaternion.{Quaternion}
 use Rattle.spatial.specs.declared.Wrench.{Wrench}

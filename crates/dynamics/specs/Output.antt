@@ -5,7 +5,7 @@ use mathlib.Core.List.{List}
 use mathlib.Core.Path.{_≡_}
 use lib.ListN.{set, take, drop}
 use lib.Ieee.{Float}
-use Rattle.spatial.specs.Finite.{wrenchNumbers}
+use Rattle.fit.specs.Finite.{wrenchNumbers}
 use Rattle.spatial.specs.Wrenches.{worldWrench}
 use Rattle.spatial.specs.declared.Quaternion.{Quaternion}
 use Rattle.spatial.specs.declared.Wrench.{Wrench}

@@ -4,7 +4,7 @@ ghost use mathlib.Core.Bool.{true};
 ghost use mathlib.Core.List.{_++_};
 ghost use Prim.Native.Nat.{_<_, _≤_};
 ghost use lib.ListN.{length, drop};
-ghost use Rattle.spatial.specs.Finite.{wrenchNumbers};
+ghost use Rattle.fit.specs.Finite.{wrenchNumbers};
 ghost use Rattle.spatial.specs.Wrenches.{worldWrench};
 ghost use Rattle.model.specs.View.{moves};
 ghost use Rattle.dynamics.specs.Figures.{figure};

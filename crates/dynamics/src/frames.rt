@@ -115,7 +115,7 @@ pub fn frame_in(joint: Joint, poses: &[f64]) -> Frame
     joint_frame(kind, joint.origin, joint.axis, pose)
 }
 
-// The same by its parts, for gravity: shared by two kernels, neither code would be inlined.
+// The same frame, made part by part: gravity has code of its own, since what two kernels share is inlined in neither.
 pub fn parts_in(joint: Joint, poses: &[f64]) -> Frame
     requires { ⌜ (moves (joint .kind) ≡ true → joint .number * 2 + 1 < length (now poses)) ⌝ }
     ensures { λ r. ⌜ r ≡ jointFrame (joint .kind) (joint .origin) (joint .axis) (poseIn (joint .kind) (joint .number) (now (poses .entry))) ⌝ }

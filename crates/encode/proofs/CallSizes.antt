@@ -15,7 +15,7 @@ use Rattle.model.specs.declared.BaseState.{BaseState}
 use Rattle.model.specs.declared.Pose.{Pose}
 use Rattle.model.specs.declared.Pose.the-variants.{Half, Slide}
 use Rattle.model.specs.declared.RootMode.{RootMode}
-use Rattle.robot.specs.declared.Function.{Function}
+use Rattle.outcome.specs.declared.Function.{Function}
 use Rattle.wire.specs.Big.{bytes16, bytes32, bytes64, floatBytes}
 use Rattle.wire.proofs.BytesLaws.{length-floatBytes}
 use Rattle.encode.specs.Joined.{joined}

@@ -11,8 +11,8 @@ use Rattle.spatial.proofs.BoolLaws.{and-left, and-right}
 use Rattle.model.specs.Bases.{baseNumbers}
 use Rattle.model.specs.Poses.{noPose}
 use Rattle.model.specs.declared.Model.{Model}
-use Rattle.robot.specs.declared.Function.{Function}
-use Rattle.robot.specs.declared.Function.the-variants.{InverseDynamics, Gravity, VelocityProduct}
+use Rattle.outcome.specs.declared.Function.{Function}
+use Rattle.outcome.specs.declared.Function.the-variants.{InverseDynamics, Gravity, VelocityProduct}
 use Rattle.wire.proofs.StandsLaws.{Stands, Doubles, stands-left, stands-right}
 use Rattle.records.specs.Places.{linkCount, loadCount, basePlace, speedsPlace, accelerationsPlace}
 use Rattle.records.specs.Layout.{callLaid}

@@ -6,7 +6,7 @@ use lib.Ieee.{Float}
 use Rattle.model.specs.Bases.{baseNumbers}
 use Rattle.model.specs.declared.BaseState.{BaseState}
 use Rattle.model.specs.declared.RootMode.{RootMode}
-use Rattle.robot.specs.declared.Function.{Function}
+use Rattle.outcome.specs.declared.Function.{Function}
 use Rattle.records.specs.Places.{callLength}
 use Rattle.wire.specs.Big.{bytes16, bytes32, bytes64, floatBytes}
 use Rattle.wire.specs.Placed.{placed}

@@ -10,8 +10,8 @@ use Rattle.model.specs.Bases.{baseNumbers}
 use Rattle.model.specs.declared.BaseState.{BaseState}
 use Rattle.model.specs.declared.RootMode.{RootMode}
 use Rattle.model.specs.declared.RootMode.the-variants.{Fixed, Floating}
-use Rattle.robot.specs.declared.Function.{Function}
-use Rattle.robot.specs.declared.Function.the-variants.{InverseDynamics, Gravity, VelocityProduct}
+use Rattle.outcome.specs.declared.Function.{Function}
+use Rattle.outcome.specs.declared.Function.the-variants.{InverseDynamics, Gravity, VelocityProduct}
 use Rattle.wire.specs.Big.{be16, bytes16, bytes32, floatBytes}
 use Rattle.wire.proofs.BytesLaws.{length-floatBytes}
 use Rattle.wire.proofs.StandsLaws.{Stands, Doubles, stands-left, stands-right, stands-byte, be16-stands}

@@ -6,7 +6,7 @@ use mathlib.Core.List.{[], _∷_}
 use native.Mathlib.Omega.{arith}
 use lib.ListN.{length, take}
 use Rattle.spatial.specs.All.{all}
-use Rattle.model.specs.Build.{blankModel}
+use Rattle.build.specs.Build.{blankModel}
 use Rattle.model.specs.Flat.{Sized, tablesOf}
 use Rattle.model.specs.declared.Model.{Model}
 use Rattle.wire.specs.Big.{bytes16, bytes32}

@@ -14,8 +14,8 @@ use Rattle.model.specs.declared.Pose.{Pose}
 use Rattle.model.specs.declared.Pose.the-variants.{Half, Slide}
 use Rattle.model.specs.declared.RootMode.{RootMode}
 use Rattle.model.specs.declared.RootMode.the-variants.{Fixed, Floating}
-use Rattle.robot.specs.declared.Function.{Function}
-use Rattle.robot.specs.declared.Function.the-variants.{InverseDynamics, Gravity, VelocityProduct}
+use Rattle.outcome.specs.declared.Function.{Function}
+use Rattle.outcome.specs.declared.Function.the-variants.{InverseDynamics, Gravity, VelocityProduct}
 use Rattle.wire.specs.Big.{bytes16, bytes32, floatBytes}
 use Rattle.records.specs.Places.{callLength}
 use Rattle.encode.specs.Joined.{joined}

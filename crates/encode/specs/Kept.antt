@@ -11,9 +11,9 @@ use Rattle.model.specs.declared.Pose.{Pose}
 use Rattle.model.specs.declared.Pose.the-variants.{Slide}
 use Rattle.loads.specs.Sums.{startSums, preparedSums, wrenchAt}
 use Rattle.loads.specs.declared.Load.{Load}
-use Rattle.robot.specs.Call.{Call, callOf}
-use Rattle.robot.specs.declared.Function.{Function}
-use Rattle.robot.specs.declared.Function.the-variants.{InverseDynamics, Gravity, VelocityProduct}
+use Rattle.outcome.specs.Call.{Call, callOf}
+use Rattle.outcome.specs.declared.Function.{Function}
+use Rattle.outcome.specs.declared.Function.the-variants.{InverseDynamics, Gravity, VelocityProduct}
 use Rattle.wire.specs.Fill.{fill}
 use Rattle.encode.specs.Calls.{Asked}
 

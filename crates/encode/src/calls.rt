@@ -14,7 +14,7 @@ use crate::lists::put_poses;
 use model::BaseState;
 use model::Pose;
 use model::RootMode;
-use robot::Function;
+use outcome::Function;
 use wire::write::put_floats;
 
 fn counts_fit(m: usize, speeds: usize, accelerations: usize, k: usize, numbers: usize) -> bool

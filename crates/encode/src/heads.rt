@@ -7,7 +7,7 @@ ghost use Rattle.wire.specs.Placed.{placed};
 ghost use Rattle.encode.specs.Calls.{functionCode, modeCode, callStart, callHead};
 use model::BaseState;
 use model::RootMode;
-use robot::Function;
+use outcome::Function;
 use wire::write::put_floats;
 use wire::write::put_u8;
 use wire::write::put_u16;

@@ -6,7 +6,7 @@ use lib.Dec.{ltb, leb, eqb}
 use borrow.Author.Tests.{ltb-true, leb-true, eqb-true, lt-ltb, eq-eqb}
 use Rattle.spatial.proofs.BoolLaws.{and-left, and-right}
 use Rattle.spatial.specs.declared.Wrench.{Wrench}
-use Rattle.spatial.specs.Finite.{allFinite, wrenchNumbers}
+use Rattle.fit.specs.Finite.{allFinite, wrenchNumbers}
 use Rattle.loads.specs.declared.LinkId.the-variants.{Known}
 use Rattle.loads.specs.declared.Finiteness.the-variants.{Finite}
 use Rattle.loads.specs.declared.Length.the-variants.{Right}

@@ -8,7 +8,7 @@ use native.Mathlib.Nat.{eq-or-lt-of-le}
 use native.Mathlib.Numerals.{add-one}
 use lib.Dec.{ltb, leb, eqb}
 use borrow.Author.Tests.{ltb-true, leb-true, eqb-true, lt-ltb, le-ltb, le-leb, eq-eqb}
-use Rattle.spatial.specs.Finite.{allFinite, wrenchNumbers}
+use Rattle.fit.specs.Finite.{allFinite, wrenchNumbers}
 use Rattle.loads.specs.declared.LoadBuffer.{LoadBuffer}
 use Rattle.loads.specs.Agree.{MAX, at, mark, Held, Counts, Kept, Agree, isCleared, loadAgrees, markAgrees, placeAgrees, countsAgree, tablesAgree}
 use Rattle.spatial.proofs.BoolLaws.{and-left, and-right, and-both, or-cases, or-left, or-right, lt-or-ge, same-or-not, upto}

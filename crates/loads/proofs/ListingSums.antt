@@ -12,10 +12,10 @@ use Rattle.spatial.specs.declared.Vector3.{Vector3}
 use Rattle.spatial.specs.declared.Wrench.{Wrench}
 use Rattle.spatial.specs.Constants.{plusZero, zeroVector, zeroWrench}
 use Rattle.spatial.specs.Float.{_⊕_}
-use Rattle.spatial.specs.Finite.{isFinite, allFinite, vectorNumbers, wrenchNumbers}
+use Rattle.fit.specs.Finite.{isFinite, allFinite, vectorNumbers, wrenchNumbers}
 use Rattle.spatial.specs.Vectors.{vectorSum}
 use Rattle.spatial.specs.Wrenches.{wrenchSum}
-use Rattle.spatial.proofs.FiniteLaws.{all-append, all-three}
+use Rattle.fit.proofs.FiniteLaws.{all-append, all-three}
 use Rattle.loads.specs.declared.Stored.{Stored}
 use Rattle.loads.specs.declared.LoadSums.{LoadSums}
 use Rattle.loads.specs.declared.LoadBuffer.{LoadBuffer}

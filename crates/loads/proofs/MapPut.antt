@@ -10,7 +10,7 @@ use lib.ListN.{length, getD, set}
 use lib.Seq.{length-take-le, getD-take, getD-set-same, getD-set-other, take-suc-set, take-set-lt}
 use borrow.Author.Tests.{eq-eqb, ne-eqb}
 use Rattle.spatial.specs.declared.Wrench.{Wrench}
-use Rattle.spatial.specs.Finite.{allFinite, wrenchNumbers}
+use Rattle.fit.specs.Finite.{allFinite, wrenchNumbers}
 use Rattle.loads.specs.declared.Stored.{Stored}
 use Rattle.loads.specs.declared.LoadBuffer.{LoadBuffer}
 use Rattle.loads.specs.Agree.{MAX, noStored, at, mark, Sized, Agree}

@@ -9,7 +9,7 @@ use native.Mathlib.Numerals.{add-one}
 use lib.ListN.{length, getD, set, take, length-set}
 use lib.Seq.{getD-set-same, getD-set-other, take-set-lt, take-set-le, take-take}
 use borrow.Author.Tests.{eq-eqb, ne-eqb, lt-ltb, le-ltb}
-use Rattle.spatial.specs.Finite.{allFinite, wrenchNumbers}
+use Rattle.fit.specs.Finite.{allFinite, wrenchNumbers}
 use Rattle.loads.specs.declared.Stored.{Stored}
 use Rattle.loads.specs.declared.LoadBuffer.{LoadBuffer}
 use Rattle.loads.specs.Agree.{MAX, cleared, noStored, at, mark, Sized, Agree}

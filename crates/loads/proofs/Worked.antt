@@ -9,7 +9,7 @@ use lib.ListN.{drop}
 use lib.Ieee.{fin}
 use Rattle.spatial.specs.declared.Vector3.{Vector3}
 use Rattle.spatial.specs.declared.Wrench.{Wrench}
-use Rattle.spatial.specs.Finite.{isFinite, allFinite}
+use Rattle.fit.specs.Finite.{isFinite, allFinite}
 use Rattle.loads.specs.declared.Finiteness.the-variants.{Finite}
 use Rattle.loads.specs.declared.LinkCount.the-variants.{Allowed}
 use Rattle.loads.specs.Checks.{linkCount, finiteness, listLength}

@@ -7,8 +7,8 @@ use lib.Ieee.Bits.{ofBits-toBits}
 use borrow.Author.Tests.{eqb-true}
 use Rattle.spatial.specs.declared.Vector3.{Vector3}
 use Rattle.spatial.specs.Constants.{plusZero, zeroVector, zeroWrench}
-use Rattle.spatial.specs.Finite.{isPlusZero}
-use Rattle.spatial.proofs.FiniteLaws.{zero-bits}
+use Rattle.fit.specs.Finite.{isPlusZero}
+use Rattle.fit.proofs.FiniteLaws.{zero-bits}
 use Rattle.loads.specs.declared.Stored.{Stored}
 use Rattle.loads.specs.Agree.{cleared, Doubles, isZeroVector, isCleared}
 use Rattle.spatial.proofs.BoolLaws.{and-left, and-right}

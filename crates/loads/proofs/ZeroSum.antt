@@ -14,7 +14,7 @@ use lib.Ieee.Fits.{and-l, and-r, down-pos}
 use borrow.Author.Tests.{lt-ltb}
 use Rattle.spatial.specs.Float.{_⊕_}
 use Rattle.spatial.specs.Constants.{plusZero}
-use Rattle.spatial.specs.Finite.{isFinite}
+use Rattle.fit.specs.Finite.{isFinite}
 use Rattle.spatial.proofs.BoolLaws.{lt-or-ge}
 
 value-finite : (x : Float) (s : Bool) (a c : ℕ) → HasValue x s a c → isFinite x ≡ true

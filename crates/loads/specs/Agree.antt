@@ -8,7 +8,7 @@ use lib.ListN.{length, getD}
 use Rattle.spatial.specs.declared.Vector3.{Vector3}
 use Rattle.spatial.specs.All.{all}
 use Rattle.spatial.specs.Constants.{zeroWrench}
-use Rattle.spatial.specs.Finite.{allFinite, wrenchNumbers, isPlusZero}
+use Rattle.fit.specs.Finite.{allFinite, wrenchNumbers, isPlusZero}
 use Rattle.loads.specs.declared.Stored.{Stored}
 use Rattle.loads.specs.declared.LoadBuffer.{LoadBuffer}
 use Rattle.loads.specs.declared.Tables.{Tables}

@@ -3,7 +3,7 @@ use Prim.Native.Nat.{ℕ, zero, suc, _*_}
 use mathlib.Core.Bool.{Bool, true, false, _&&_}
 use lib.Dec.{ltb, leb, eqb}
 use Rattle.spatial.specs.declared.Wrench.{Wrench}
-use Rattle.spatial.specs.Finite.{allFinite, wrenchNumbers}
+use Rattle.fit.specs.Finite.{allFinite, wrenchNumbers}
 use Rattle.loads.specs.declared.Tables.{Tables}
 use Rattle.loads.specs.declared.Tables.the-variants.{Sound, Corrupt}
 use Rattle.loads.specs.declared.LinkCount.{LinkCount}

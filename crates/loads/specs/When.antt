@@ -6,7 +6,7 @@ use mathlib.Core.Logic.{_⊎_}
 use mathlib.Core.Path.{_≡_}
 use lib.Ieee.{Float}
 use lib.ListN.{length, getD, take}
-use Rattle.spatial.specs.Finite.{allFinite, wrenchNumbers}
+use Rattle.fit.specs.Finite.{allFinite, wrenchNumbers}
 use Rattle.loads.specs.declared.Load.{Load}
 use Rattle.loads.specs.Sums.{noLoad, sumAt, loadSums}
 

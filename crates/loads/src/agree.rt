@@ -10,9 +10,9 @@ use crate::LoadBuffer;
 use crate::Stored;
 use crate::Tables;
 use crate::checks::check_links;
+use fit::finite::finite_wrench;
+use fit::finite::is_plus_zero;
 use spatial::Vector3;
-use spatial::finite::finite_wrench;
-use spatial::finite::is_plus_zero;
 
 // Three times +0.
 fn is_zero_vector(v: Vector3) -> bool

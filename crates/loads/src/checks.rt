@@ -6,8 +6,8 @@ use crate::Finiteness;
 use crate::Length;
 use crate::LinkCount;
 use crate::LinkId;
+use fit::finite::finite_wrench;
 use spatial::Wrench;
-use spatial::finite::finite_wrench;
 
 // A link count of 1 to 64.
 pub fn check_links(n: usize) -> LinkCount

@@ -8,9 +8,9 @@ use native.Mathlib.Omega.{arith}
 use lib.ListN.{length, take, drop, getD}
 use lib.Ieee.{Float}
 use Rattle.spatial.specs.All.{all}
-use Rattle.spatial.specs.Finite.{allFinite}
+use Rattle.fit.specs.Finite.{allFinite}
 use Rattle.spatial.proofs.AllLaws.{all-both}
-use Rattle.spatial.proofs.FiniteLaws.{all-blocks, cells, take-cells}
+use Rattle.fit.proofs.FiniteLaws.{all-blocks, cells, take-cells}
 use Rattle.model.specs.declared.Joint.{Joint}
 use Rattle.model.specs.Flat.{vectorAt, frameAt, linkAt, jointAt}
 use Rattle.model.specs.Links.{linkNumbers, weighs, goodLink}

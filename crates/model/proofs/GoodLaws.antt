@@ -9,8 +9,8 @@ use native.Mathlib.Omega.{arith}
 use borrow.Author.Tests.{leb-true, le-leb}
 use Rattle.spatial.specs.All.{all}
 use Rattle.spatial.specs.Constants.{plusZero}
-use Rattle.spatial.specs.Finite.{allFinite}
-use Rattle.spatial.specs.Unit.{unitVector, unitQuaternion}
+use Rattle.fit.specs.Finite.{allFinite}
+use Rattle.fit.specs.Unit.{unitVector, unitQuaternion}
 use Rattle.spatial.proofs.AllLaws.{all-at, all-if}
 use Rattle.model.specs.declared.Checked.the-variants.{Good, InvalidModel}
 use Rattle.model.specs.Numbers.{Holds, numbered}

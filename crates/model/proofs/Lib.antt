@@ -1,8 +1,6 @@
 pub mod BlockLaws
-pub mod BuildLaws
 pub mod NumberLaws
 pub mod Pigeonhole
 pub mod NumberedLaws
 pub mod PoseLaws
 pub mod GoodLaws
-pub mod Worked

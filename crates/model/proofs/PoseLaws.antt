@@ -7,7 +7,7 @@ use native.Mathlib.Numerals.{add-one}
 use native.Mathlib.Omega.{arith}
 use lib.ListN.{getD}
 use borrow.Author.Tests.{eq-eqb, ne-eqb}
-use Rattle.spatial.specs.Finite.{allFinite}
+use Rattle.fit.specs.Finite.{allFinite}
 use Rattle.model.specs.declared.JointType.{JointType}
 use Rattle.model.specs.declared.Pose.{Pose}
 use Rattle.model.specs.declared.Checked.{Checked}

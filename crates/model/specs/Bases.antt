@@ -4,8 +4,8 @@ use mathlib.Core.Path.{_≡_}
 use mathlib.Core.Bool.{Bool, true, _&&_}
 use mathlib.Core.List.{List, _++_}
 use lib.Ieee.{Float}
-use Rattle.spatial.specs.Finite.{allFinite, frameNumbers, twistNumbers}
-use Rattle.spatial.specs.Unit.{unitQuaternion}
+use Rattle.fit.specs.Finite.{allFinite, frameNumbers, twistNumbers}
+use Rattle.fit.specs.Unit.{unitQuaternion}
 use Rattle.model.specs.declared.BaseState.{BaseState}
 use Rattle.model.specs.declared.Checked.{Checked}
 use Rattle.model.specs.declared.Checked.the-variants.{InvalidBaseState}

@@ -5,8 +5,8 @@ use mathlib.Core.Bool.{Bool, true, not, _&&_, _||_}
 use mathlib.Core.List.{List, _++_}
 use lib.Dec.{leb}
 use lib.Ieee.{Float}
-use Rattle.spatial.specs.Finite.{allFinite, vectorNumbers, frameNumbers}
-use Rattle.spatial.specs.Unit.{unitVector, unitQuaternion}
+use Rattle.fit.specs.Finite.{allFinite, vectorNumbers, frameNumbers}
+use Rattle.fit.specs.Unit.{unitVector, unitQuaternion}
 use Rattle.model.specs.declared.Joint.{Joint}
 use Rattle.model.specs.View.{moves}
 

@@ -9,4 +9,3 @@ pub mod Bases
 pub mod Poses
 pub mod Lists
 pub mod Marks
-pub mod Build

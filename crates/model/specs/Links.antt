@@ -4,7 +4,7 @@ use mathlib.Core.Bool.{Bool, true, _&&_}
 use mathlib.Core.List.{List, _∷_, _++_}
 use lib.Ieee.{Float, le}
 use Rattle.spatial.specs.Constants.{plusZero}
-use Rattle.spatial.specs.Finite.{allFinite, vectorNumbers, matrixNumbers}
+use Rattle.fit.specs.Finite.{allFinite, vectorNumbers, matrixNumbers}
 use Rattle.spatial.specs.Vectors.{scaled}
 use Rattle.model.specs.declared.Link.{Link}
 

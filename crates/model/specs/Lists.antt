@@ -4,7 +4,7 @@ use mathlib.Core.List.{List}
 use lib.Dec.{eqb}
 use lib.ListN.{length}
 use lib.Ieee.{Float}
-use Rattle.spatial.specs.Finite.{allFinite}
+use Rattle.fit.specs.Finite.{allFinite}
 use Rattle.model.specs.declared.Checked.{Checked}
 use Rattle.model.specs.declared.Checked.the-variants.{WrongLength, NonFiniteInput}
 use Rattle.model.specs.Answer.{orElse, unless}

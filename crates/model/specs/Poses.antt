@@ -7,8 +7,8 @@ use mathlib.Core.Path.{_≡_}
 use lib.Dec.{eqb}
 use lib.ListN.{getD}
 use lib.Ieee.{Float, nan}
-use Rattle.spatial.specs.Finite.{allFinite}
-use Rattle.spatial.specs.Unit.{unitPair}
+use Rattle.fit.specs.Finite.{allFinite}
+use Rattle.fit.specs.Unit.{unitPair}
 use Rattle.model.specs.declared.JointType.{JointType}
 use Rattle.model.specs.declared.JointType.the-variants.{Fixed, Revolute, Prismatic}
 use Rattle.model.specs.declared.Pose.{Pose}

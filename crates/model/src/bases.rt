@@ -3,9 +3,9 @@ ghost use mathlib.Core.Path.{_≡_};
 ghost use Rattle.model.specs.Bases.{goodBase, baseChecked};
 use crate::BaseState;
 use crate::Checked;
-use spatial::finite::finite_frame;
-use spatial::finite::finite_twist;
-use spatial::unit::is_unit_quaternion;
+use fit::finite::finite_frame;
+use fit::finite::finite_twist;
+use fit::unit::is_unit_quaternion;
 
 fn base_good(base: BaseState) -> bool
     ensures { λ r. ⌜ r ≡ goodBase base ⌝ }

@@ -8,11 +8,11 @@ ghost use Rattle.model.specs.Joints.{axisFits, fits, goodJoint};
 use crate::Joint;
 use crate::JointType;
 use crate::links::vector_at;
+use fit::finite::finite_numbers;
+use fit::unit::is_unit_quaternion;
+use fit::unit::is_unit_vector;
 use spatial::Frame;
 use spatial::Quaternion;
-use spatial::finite::finite_numbers;
-use spatial::unit::is_unit_quaternion;
-use spatial::unit::is_unit_vector;
 
 pub fn frame_at(s: &[f64], i: usize) -> Frame
     requires { ⌜ i + 6 < length (now s) ⌝ }

@@ -1,6 +1,5 @@
 // A robot as tables of numbers, and what a good model, base state and pose are.
 pub mod bases;
-pub mod build;
 pub mod joints;
 pub mod links;
 pub mod lists;

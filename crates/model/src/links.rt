@@ -6,10 +6,10 @@ ghost use Rattle.spatial.specs.All.{all};
 ghost use Rattle.model.specs.Flat.{vectorAt, linkAt};
 ghost use Rattle.model.specs.Links.{weighs, goodLink};
 use crate::Link;
+use fit::finite::finite_numbers;
+use fit::finite::finite_vector;
 use spatial::Matrix3;
 use spatial::Vector3;
-use spatial::finite::finite_numbers;
-use spatial::finite::finite_vector;
 use spatial::vectors::scale;
 
 pub fn vector_at(s: &[f64], i: usize) -> Vector3

@@ -2,7 +2,7 @@
 ghost use mathlib.Core.Path.{_≡_};
 ghost use Rattle.model.specs.Lists.{listChecked};
 use crate::Checked;
-use spatial::finite::finite_numbers;
+use fit::finite::finite_numbers;
 
 // m numbers, all finite.
 pub fn check_list(list: &[f64], m: usize) -> Checked

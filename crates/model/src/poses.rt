@@ -2,7 +2,7 @@
 ghost use mathlib.Core.Path.{_≡_};
 ghost use Prim.Native.Nat.{_≤_};
 ghost use lib.ListN.{length};
-ghost use Rattle.spatial.specs.Finite.{allFinite};
+ghost use Rattle.fit.specs.Finite.{allFinite};
 ghost use Rattle.model.specs.Answer.{orElse};
 ghost use Rattle.model.specs.Poses.{poseNumbers, poseFits, poseChecked, positionsChecked};
 ghost use mathlib.Core.Bool.{cond};
@@ -13,8 +13,8 @@ use crate::JointType;
 use crate::Pose;
 use crate::joints::kind_of;
 use crate::numbers::slot;
-use spatial::finite::is_finite;
-use spatial::unit::is_unit_pair;
+use fit::finite::is_finite;
+use fit::unit::is_unit_pair;
 
 fn pose_finite(pose: Pose) -> bool
     ensures { λ r. ⌜ r ≡ allFinite (poseNumbers pose) ⌝ }

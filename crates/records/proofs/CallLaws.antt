@@ -7,10 +7,10 @@ use native.Mathlib.Nat.{le-of-suc-le-suc, not-suc-le-zero}
 use lib.ListN.{length, getD, take, replicate, length-replicate}
 use lib.Ieee.{Float}
 use Rattle.spatial.specs.Constants.{plusZero}
-use Rattle.robot.specs.Outcome.{outcome}
-use Rattle.robot.specs.Refusal.{outputLength}
-use Rattle.robot.specs.declared.Function.{Function}
-use Rattle.robot.specs.declared.Function.the-variants.{InverseDynamics, Gravity, VelocityProduct}
+use Rattle.outcome.specs.Outcome.{outcome}
+use Rattle.outcome.specs.Refusal.{outputLength}
+use Rattle.outcome.specs.declared.Function.{Function}
+use Rattle.outcome.specs.declared.Function.the-variants.{InverseDynamics, Gravity, VelocityProduct}
 use Rattle.records.specs.Places.{linkCount, moving, callPlace, loadCount}
 use Rattle.records.specs.Layout.{LaidBytes}
 use Rattle.records.specs.Models.{modelIn}

@@ -8,14 +8,14 @@ use lib.ListN.{replicate}
 use lib.Ieee.{Float, add, fin, le, mul, neg, odd, ofBits, ofFields, size, sub, toBits}
 use Rattle.spatial.specs.All.{all}
 use Rattle.spatial.specs.Constants.{plusZero, standardGravity, zeroVector, zeroTwist, zeroWrench}
-use Rattle.spatial.specs.Finite.{isFinite, allFinite}
-use Rattle.spatial.specs.Unit.{isUnit, unitPair, unitVector, unitQuaternion}
+use Rattle.fit.specs.Finite.{isFinite, allFinite}
+use Rattle.fit.specs.Unit.{isUnit, unitPair, unitVector, unitQuaternion}
 use Rattle.spatial.specs.Vectors.{vectorSum, scaled, crossed, dotted}
 use Rattle.spatial.specs.Rotations.{inverted, multiplied, rotated, matrixOf, transformed}
 use Rattle.spatial.specs.Wrenches.{wrenchSum, wrenchToParent}
 use Rattle.tree.specs.Tree.{climb, valueAt, total, totalOf, rootSum}
 use Rattle.model.specs.Bases.{goodBase}
-use Rattle.model.specs.Build.{pasted, blankModel, withLink, withJoint}
+use Rattle.build.specs.Build.{pasted, blankModel, withLink, withJoint}
 use Rattle.model.specs.Flat.{vectorAt, frameAt, linkAt, kindOf}
 use Rattle.model.specs.Good.{countsFit, goodModel}
 use Rattle.model.specs.Joints.{axisFits, fits, goodJoint}
@@ -23,7 +23,7 @@ use Rattle.model.specs.Links.{weighs, goodLink}
 use Rattle.model.specs.Lists.{listChecked}
 use Rattle.model.specs.Numbers.{taken, numberedAt, numbered, holderOf}
 use Rattle.model.specs.Poses.{poseChecked, first, kindOfNumber, positionsChecked}
-use Rattle.model.proofs.Worked.{turned}
+use Rattle.build.proofs.Worked.{turned}
 use Rattle.loads.specs.Checks.{linkId, finiteness, amount}
 use Rattle.loads.specs.Sums.{startSums, sumStep, sumFrom, loadSums, preparedSums}
 use Rattle.dynamics.specs.Flat.{valueIn}
@@ -32,11 +32,11 @@ use Rattle.dynamics.specs.Motions.{rootMotion, accelerationAt, carried, turning
 use Rattle.dynamics.specs.Weights.{gravityWrench}
 use Rattle.dynamics.specs.Run.{frameOf}
 use Rattle.dynamics.specs.Figures.{figure, figureOf, rootOf}
-use Rattle.robot.specs.Refusal.{startChecked, refusal}
+use Rattle.outcome.specs.Refusal.{startChecked, refusal}
 use Rattle.spatial.specs.Listed.{listOf}
-use Rattle.robot.specs.Figures.{figures}
-use Rattle.robot.specs.Outcome.{outcome}
-use Rattle.robot.proofs.Worked as Outcomes
+use Rattle.outcome.specs.Figures.{figures}
+use Rattle.outcome.specs.Outcome.{outcome}
+use Rattle.outcome.proofs.Worked as Outcomes
 use Rattle.wire.specs.Big.{be16, be32, be64, f64At, bytes16, bytes32, bytes64, floatBytes}
 use Rattle.wire.specs.Fill.{fill}
 use Rattle.dynamics.specs.Weights as Weights

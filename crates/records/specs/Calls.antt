@@ -19,9 +19,9 @@ use Rattle.model.specs.declared.RootMode.{RootMode}
 use Rattle.model.specs.declared.RootMode.the-variants.{Fixed, Floating}
 use Rattle.loads.specs.Sums.{startSums, preparedSums}
 use Rattle.loads.specs.declared.Load.{Load}
-use Rattle.robot.specs.Call.{Call, callOf}
-use Rattle.robot.specs.declared.Function.{Function}
-use Rattle.robot.specs.declared.Function.the-variants.{InverseDynamics, Gravity, VelocityProduct}
+use Rattle.outcome.specs.Call.{Call, callOf}
+use Rattle.outcome.specs.declared.Function.{Function}
+use Rattle.outcome.specs.declared.Function.the-variants.{InverseDynamics, Gravity, VelocityProduct}
 use Rattle.wire.specs.Big.{be16, f64At}
 use Rattle.wire.specs.Fill.{fill}
 use Rattle.records.specs.Places.{linkCount, moving, callPlace, basePlace, loadCount, posePlace, speedsPlace, accelerationsPlace, loadPlace}

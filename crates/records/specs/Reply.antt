@@ -5,9 +5,9 @@ use mathlib.Core.List.{List, [], _++_}
 use lib.Dec.{leb}
 use lib.ListN.{length, drop, replicate}
 use Rattle.spatial.specs.Constants.{plusZero}
-use Rattle.robot.specs.Call.{Call}
-use Rattle.robot.specs.Outcome.{Outcome, outcome}
-use Rattle.robot.specs.Refusal.{outputLength}
+use Rattle.outcome.specs.Call.{Call}
+use Rattle.outcome.specs.Outcome.{Outcome, outcome}
+use Rattle.outcome.specs.Refusal.{outputLength}
 use Rattle.records.specs.declared.Layout.{Layout}
 use Rattle.records.specs.declared.Layout.the-variants.{Kept, Broken}
 use Rattle.records.specs.Layout.{laid, layoutOf, layoutNumber}

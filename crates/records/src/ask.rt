@@ -2,8 +2,8 @@
 ghost use mathlib.Core.Path.{_≡_};
 ghost use Prim.Native.Nat.{_+_};
 ghost use lib.ListN.{getD};
-ghost use Rattle.robot.specs.Outcome.{outcome, told};
-ghost use Rattle.robot.specs.declared.Function.the-variants.{InverseDynamics, Gravity, VelocityProduct};
+ghost use Rattle.outcome.specs.Outcome.{outcome, told};
+ghost use Rattle.outcome.specs.declared.Function.the-variants.{InverseDynamics, Gravity, VelocityProduct};
 ghost use Rattle.records.specs.Calls.{functionOf, callWith};
 ghost use Rattle.records.specs.Reading.{Readable};
 use crate::calls::base_in;

@@ -1,15 +1,4 @@
-// The three functions, fixed and floating: every call answered, in 01's order.
-pub mod checks;
+// The three functions over a model, fixed and floating: every call is answered.
 pub mod gravity;
 pub mod inverse;
-pub mod poses;
-pub mod roots;
-pub mod solve;
 pub mod velocity;
-
-// What is asked of a robot.
-pub enum Function {
-    InverseDynamics,
-    Gravity,
-    VelocityProduct,
-}

@@ -6,5 +6,3 @@ pub mod Past
 pub mod Vectors
 pub mod Rotations
 pub mod Wrenches
-pub mod Finite
-pub mod Unit

@@ -1,8 +1,6 @@
 // Small records of doubles, with the plain functions over them that 01 names in "The float steps".
 pub mod constants;
-pub mod finite;
 pub mod rotations;
-pub mod unit;
 pub mod vectors;
 pub mod wrenches;
 

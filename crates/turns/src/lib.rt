@@ -1,5 +1,4 @@
 // A call made many times over, for a driver that measures it.
-ghost use Prim.Native.Nat.{_≤_};
 ghost use Rattle.records.specs.Layout.{LaidBytes};
 ghost use Rattle.records.specs.Reading.{Readable};
 

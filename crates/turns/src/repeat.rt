@@ -6,9 +6,9 @@ use model::Pose;
 use model::RootMode;
 use model::number_of;
 use model::tables::check_tables;
-use robot::gravity::gravity_lent;
-use robot::inverse::inverse_dynamics_lent;
-use robot::velocity::velocity_product_forces_lent;
+use outcome::gravity::gravity_lent;
+use outcome::inverse::inverse_dynamics_lent;
+use outcome::velocity::velocity_product_forces_lent;
 
 pub fn repeat_inverse<'a>(
     turns: usize,

@@ -1,4 +1,4 @@
-use Rattle.spatial.proofs.FiniteLaws.{not-nan}
+use Rattle.fit.proofs.FiniteLaws.{not-nan}
 use borrow.Author.Needs.{needs}
 use Rattle.buffer_replay.proofs.same_double.Statement.{statement}
 use Rattle.buffer_replay.proofs.same_double.Tie as tie

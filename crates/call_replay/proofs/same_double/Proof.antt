@@ -1,5 +1,5 @@
 use borrow.Author.Needs.{needs}
-use Rattle.spatial.proofs.FiniteLaws.{not-nan}
+use Rattle.fit.proofs.FiniteLaws.{not-nan}
 use Rattle.call_replay.proofs.same_double.Statement.{statement}
 use Rattle.call_replay.proofs.same_double.Tie as tie
 

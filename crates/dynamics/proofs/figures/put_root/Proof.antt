@@ -1,6 +1,6 @@
 use lib.ListN.{drop}
 use mathlib.Core.List.{_++_}
-use Rattle.spatial.specs.Finite.{wrenchNumbers}
+use Rattle.fit.specs.Finite.{wrenchNumbers}
 use mathlib.Core.Path.{ap, _∙_}
 use Rattle.dynamics.proofs.SixLaws.{six-sets}
 use lib.ListN.{length-set}

@@ -1,7 +1,7 @@
 use borrow.Author.Needs.{needs}
 use Rattle.model.specs.Bases.{goodBase}
-use Rattle.spatial.specs.Finite.{frameNumbers, twistNumbers}
-use Rattle.spatial.proofs.FiniteLaws.{all-parts}
+use Rattle.fit.specs.Finite.{frameNumbers, twistNumbers}
+use Rattle.fit.proofs.FiniteLaws.{all-parts}
 use Rattle.model.proofs.bases.base_good.Statement.{statement}
 use Rattle.model.proofs.bases.base_good.Tie as tie
 

@@ -1,6 +1,6 @@
 use borrow.Author.Needs.{needs}
-use Rattle.spatial.specs.Finite.{allFinite}
-use Rattle.spatial.proofs.FiniteLaws.{all-one, all-two}
+use Rattle.fit.specs.Finite.{allFinite}
+use Rattle.fit.proofs.FiniteLaws.{all-one, all-two}
 use Rattle.model.proofs.poses.pose_finite.Statement.{statement}
 use Rattle.model.proofs.poses.pose_finite.Tie as tie
 

@@ -2,7 +2,7 @@ use Prim.Native.Nat.{ℕ, zero, suc}
 use mathlib.Core.Path.{_≡_, refl}
 use mathlib.Core.List.{List, []}
 use lib.Ieee.{Float}
-use Rattle.robot.specs.Outcome.{told}
+use Rattle.outcome.specs.Outcome.{told}
 use Rattle.records.specs.Answers.{Answer}
 use Rattle.records.specs.Reply.{answerOf}
 use borrow.Author.Needs.{needs}

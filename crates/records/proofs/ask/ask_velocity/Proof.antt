@@ -10,9 +10,9 @@ use Rattle.model.specs.declared.Pose.{Pose}
 use Rattle.model.specs.declared.RootMode.{RootMode}
 use Rattle.loads.specs.Sums.{startSums, preparedSums}
 use Rattle.loads.specs.declared.LoadSums.{LoadSums}
-use Rattle.robot.specs.Call.{callOf}
-use Rattle.robot.specs.Outcome.{outcome, told}
-use Rattle.robot.specs.declared.Function.the-variants.{InverseDynamics, Gravity, VelocityProduct}
+use Rattle.outcome.specs.Call.{callOf}
+use Rattle.outcome.specs.Outcome.{outcome, told}
+use Rattle.outcome.specs.declared.Function.the-variants.{InverseDynamics, Gravity, VelocityProduct}
 use Rattle.records.specs.Places.{linkCount, speedsPlace, accelerationsPlace}
 use Rattle.records.specs.Models.{modelIn}
 use Rattle.records.specs.Calls.{modeOf, baseIn, positionsIn, floatsIn, loadsIn, callWith}

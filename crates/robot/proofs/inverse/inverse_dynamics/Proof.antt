@@ -46,9 +46,9 @@ use lib.Ieee.{Float}
 use Rattle.loads.specs.declared.Load.{Load as Loadᵗ}
 use Rattle.loads.specs.declared.LoadSums.{LoadSums as LoadSumsᵗ}
 use Rattle.loads.specs.Sums.{preparedSums as preparedSumsˢ}
-use Rattle.robot.specs.declared.Function.the-variants.{InverseDynamics as InverseDynamicsˢ}
-use Rattle.robot.specs.Call.{callOf as callOfˢ}
-use Rattle.robot.specs.Outcome.{outcome as outcomeˢ, told as toldˢ}
+use Rattle.outcome.specs.declared.Function.the-variants.{InverseDynamics as InverseDynamicsˢ}
+use Rattle.outcome.specs.Call.{callOf as callOfˢ}
+use Rattle.outcome.specs.Outcome.{outcome as outcomeˢ, told as toldˢ}
 use Rattle.loads.proofs.Load as Loadʳ
 use Rattle.loads.proofs.LoadSums as LoadSumsʳ
 use Rattle.loads.proofs.LoadSums.Laws as LoadSumsˡ

@@ -2,7 +2,7 @@ use mathlib.Core.Path.{refl, sym, subst}
 use lib.Dec.{T}
 use lib.Ieee.{toBits}
 use lib.Ieee.Compare.{differs-from-itself}
-use Rattle.spatial.proofs.FiniteLaws.{not-nan}
+use Rattle.fit.proofs.FiniteLaws.{not-nan}
 use borrow.Author.Needs.{needs}
 use Rattle.wire.proofs.write.pattern.Statement.{statement}
 use Rattle.wire.proofs.write.pattern.Tie as tie

@@ -1,0 +1,2 @@
+pub mod FiniteLaws
+pub mod Worked

@@ -1,0 +1,74 @@
+use borrow.Author.Needs.{needs}
+use mathlib.Core.Path.{_≡_, refl, sym, ap, _∙_}
+use native.Mathlib.Omega.{arith}
+use Rattle.model.specs.Good.{goodModel, GoodModel}
+use Rattle.outcome.specs.Refusal.{startChecked}
+use Rattle.outcome.proofs.AnswerLaws.{kept}
+use Rattle.model.specs.View.{View}
+use Rattle.model.specs.Flat.{viewOf, lent}
+use Rattle.model.specs.Answer.{orElse, unless}
+use Rattle.model.specs.declared.Checked.{Checked}
+use Rattle.model.specs.declared.Checked.the-variants.{Good, InvalidModel}
+use Rattle.model.specs.Good.{modelChecked}
+use Rattle.model.proofs.GoodLaws.{good-says, few-moving}
+use mathlib.Core.Bool.{Bool, true, false}
+use Rattle.outcome.proofs.AnswerLaws.{start-model, start-base, start-positions}
+use Rattle.outcome.proofs.checks.check_start.Statement.{statement}
+use Rattle.outcome.proofs.checks.check_start.Tie as tie
+
+abbrev view : tie.Start → View
+view s = viewOf (lent (s .args .links .now) (s .args .joints .now) (s .args .kinds .now) (s .args .parents .now) (s .args .numbers .now)) (s .args .count) (s .args .moving)
+
+is-good : (b : Bool) → unless b InvalidModel ≡ Good → b ≡ true
+is-good true e = refl
+is-good false e = cc
+
+passed : (a : tie.After-enum-told) → modelChecked (view (a .before .before .before .before .before .before .before .before)) ≡ Good
+passed a = sym (a .before .before .check-tables .ensures) ∙ a .enum-told .given .1
+
+known : (a : tie.After-enum-told) → GoodModel (view (a .before .before .before .before .before .before .before .before))
+known a = good-says _ (is-good _ (passed a))
+
+check-tables-requires : tie.Need-check-tables-requires
+check-tables-requires c κs = search needs
+
+enum-told : tie.Need-enum-told
+enum-told c = search needs
+
+returns : tie.Need-returns
+returns c = start-model (view (c .before .before .before .before .before .before .before)) _ _ _ _ (c .before .check-tables .ensures) (c .match .keys2)
+
+check-base-requires : tie.Need-check-base-requires
+check-base-requires c κs = search needs
+
+enum-told-2 : tie.Need-enum-told-2
+enum-told-2 c = search needs
+
+returns-2 : tie.Need-returns-2
+returns-2 c = start-base (view (c .before .before .before .before .before .before .before .before .before .before)) _ _ _ _ (passed (c .before .before)) (c .before .check-base .ensures) (c .match2 .keys2)
+
+sub-check-positions : tie.Need-sub-check-positions
+sub-check-positions c = known (c .before .before .before) .some
+
+check-positions-requires : tie.Need-check-positions-requires
+check-positions-requires c κs =
+    let k = known (c .before .before .before) in
+    let z = c .before .before .before .before .before .before .before .before .before .before .before .pre in
+    (omega (arith, k .few), few-moving _ k, z .kinds, z .numbers)
+
+returns-3 : tie.Need-returns-3
+returns-3 c = start-positions (view (c .before .before .before .before .before .before .before .before .before .before .before .before)) _ _ _ _ (passed (c .before .before .before .before)) (sym (c .before .before .before .check-base .ensures) ∙ c .before .enum-told2 .given .1) (c .check-positions .ensures)
+
+pub check-start-spec : {M : Type 1} → statement M
+check-start-spec =
+    tie.close
+    (tie.spec
+    check-tables-requires
+    enum-told
+    returns
+    check-base-requires
+    enum-told-2
+    returns-2
+    sub-check-positions
+    check-positions-requires
+    returns-3)

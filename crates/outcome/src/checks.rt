@@ -1,0 +1,64 @@
+// The checks of a call, in 01's order.
+ghost use mathlib.Core.Path.{_≡_};
+ghost use Rattle.model.specs.Answer.{orElse};
+ghost use Rattle.model.specs.Bases.{baseChecked};
+ghost use Rattle.model.specs.Flat.{Sized, lent, viewOf};
+ghost use Rattle.model.specs.Good.{modelChecked};
+ghost use Rattle.model.specs.Marks.{kindIn, numberingIn};
+ghost use Rattle.model.specs.Poses.{positionsChecked};
+ghost use Rattle.outcome.specs.Refusal.{outputChecked, startChecked};
+use model::BaseState;
+use model::Checked;
+use model::Pose;
+use model::RootMode;
+use model::bases::check_base;
+use model::poses::check_positions;
+use model::tables::check_tables;
+
+// m places in fixed mode, 6 more in floating mode.
+pub fn check_output(mode: RootMode, length: usize, moving: usize) -> Checked
+    ensures { λ r. ⌜ r ≡ outputChecked mode moving length ⌝ }
+{
+    match mode {
+        RootMode::Fixed => {
+            if length == moving {
+                return Checked::Good;
+            }
+        }
+        RootMode::Floating => {
+            if 6 <= length {
+                if length - 6 == moving {
+                    return Checked::Good;
+                }
+            }
+        }
+    }
+    Checked::WrongLength
+}
+
+// The model, the base state and the positions, over lent tables.
+pub fn check_start<'a>(
+    links: &'a [f64],
+    joints: &'a [f64],
+    kinds: &'a [u8],
+    parents: &'a [usize],
+    numbers: &'a [usize],
+    count: usize,
+    moving: usize,
+    base: BaseState,
+    positions: [Pose; 63],
+    entries: usize,
+) -> Checked
+    requires { ⌜ Sized (lent (now links) (now joints) (now kinds) (now parents) (now numbers)) ⌝ }
+    ensures { λ r. ⌜ r ≡ startChecked (viewOf (lent (now (links .entry)) (now (joints .entry)) (now (kinds .entry)) (now (parents .entry)) (now (numbers .entry))) count moving) base positions entries ⌝ }
+{
+    let model = check_tables(links, joints, kinds, parents, numbers, count, moving);
+    let Checked::Good = model else {
+        return model;
+    };
+    let state = check_base(base);
+    let Checked::Good = state else {
+        return state;
+    };
+    check_positions(kinds, numbers, count - 1, moving, positions, entries)
+}

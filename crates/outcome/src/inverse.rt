@@ -1,0 +1,94 @@
+// Inverse dynamics, fixed and floating.
+ghost use mathlib.Core.Path.{_≡_};
+ghost use Rattle.model.specs.Flat.{Sized, lent};
+ghost use Rattle.outcome.specs.Call.{lentCall};
+ghost use Rattle.outcome.specs.Outcome.{outcome, told};
+use crate::Function;
+use crate::checks::check_output;
+use crate::checks::check_start;
+use crate::poses::pose_table;
+use crate::roots::check_figures;
+use crate::roots::inverse_root;
+use crate::solve::solve_inverse;
+use loads::LoadSums;
+use model::BaseState;
+use model::Checked;
+use model::Pose;
+use model::RootMode;
+use model::lists::check_list;
+use model::number_of;
+
+// Over lent tables, for callers who hold a model or tables of its lengths: a refusal's number with the output as found, or the figures.
+pub fn inverse_dynamics_lent<'a>(
+    mode: RootMode,
+    links: &'a [f64],
+    joints: &'a [f64],
+    kinds: &'a [u8],
+    parents: &'a [usize],
+    numbers: &'a [usize],
+    count: usize,
+    moving: usize,
+    base: BaseState,
+    positions: [Pose; 63],
+    entries: usize,
+    speeds: &'a [f64],
+    accelerations: &'a [f64],
+    loads: LoadSums,
+    output: &mut [f64],
+) -> u8
+    requires { ⌜ Sized (lent (now links) (now joints) (now kinds) (now parents) (now numbers)) ⌝ }
+    ensures { λ r. ⌜ told r (now (output .exit)) ≡ outcome (lentCall Function.InverseDynamics mode (lent (now (links .entry)) (now (joints .entry)) (now (kinds .entry)) (now (parents .entry)) (now (numbers .entry))) count moving base positions entries (now (speeds .entry)) (now (accelerations .entry)) loads) (now (output .entry)) ⌝ }
+{
+    let start = check_start(
+        links,
+        joints,
+        kinds,
+        parents,
+        numbers,
+        count,
+        moving,
+        base,
+        positions,
+        entries,
+    );
+    let Checked::Good = start else {
+        return number_of(start);
+    };
+    let speed = check_list(speeds, moving);
+    let Checked::Good = speed else {
+        return number_of(speed);
+    };
+    let acceleration = check_list(accelerations, moving);
+    let Checked::Good = acceleration else {
+        return number_of(acceleration);
+    };
+    let length = check_output(mode, output.len(), moving);
+    let Checked::Good = length else {
+        return number_of(length);
+    };
+    let refused = loads.number;
+    if refused != 0 {
+        return refused;
+    }
+    let root = inverse_root(mode, base);
+    let poses = pose_table(positions, entries);
+    let sums = loads.sums;
+    solve_inverse(
+        mode,
+        links,
+        joints,
+        kinds,
+        parents,
+        numbers,
+        count,
+        moving,
+        base.frame.rotation,
+        root,
+        &poses,
+        speeds,
+        accelerations,
+        sums,
+        output,
+    );
+    check_figures(output)
+}

@@ -1,0 +1,15 @@
+// What a call comes to: its refusal or its figures, over a model's lent tables and in 01's order.
+pub mod checks;
+pub mod gravity;
+pub mod inverse;
+pub mod poses;
+pub mod roots;
+pub mod solve;
+pub mod velocity;
+
+// What is asked of a robot.
+pub enum Function {
+    InverseDynamics,
+    Gravity,
+    VelocityProduct,
+}

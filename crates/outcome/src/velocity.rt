@@ -1,0 +1,82 @@
+// Velocity product, fixed and floating.
+ghost use mathlib.Core.List.{[]};
+ghost use mathlib.Core.Path.{_≡_};
+ghost use Rattle.loads.specs.Sums.{startSums};
+ghost use Rattle.model.specs.Flat.{Sized, lent};
+ghost use Rattle.outcome.specs.Call.{lentCall};
+ghost use Rattle.outcome.specs.Outcome.{outcome, told};
+use crate::Function;
+use crate::checks::check_output;
+use crate::checks::check_start;
+use crate::poses::pose_table;
+use crate::roots::check_figures;
+use crate::roots::velocity_root;
+use crate::solve::solve_velocity;
+use model::BaseState;
+use model::Checked;
+use model::Pose;
+use model::RootMode;
+use model::lists::check_list;
+use model::number_of;
+
+// Over lent tables, for callers who hold a model or tables of its lengths: a refusal's number with the output as found, or the figures.
+pub fn velocity_product_forces_lent<'a>(
+    mode: RootMode,
+    links: &'a [f64],
+    joints: &'a [f64],
+    kinds: &'a [u8],
+    parents: &'a [usize],
+    numbers: &'a [usize],
+    count: usize,
+    moving: usize,
+    base: BaseState,
+    positions: [Pose; 63],
+    entries: usize,
+    speeds: &'a [f64],
+    output: &mut [f64],
+) -> u8
+    requires { ⌜ Sized (lent (now links) (now joints) (now kinds) (now parents) (now numbers)) ⌝ }
+    ensures { λ r. ⌜ told r (now (output .exit)) ≡ outcome (lentCall Function.VelocityProduct mode (lent (now (links .entry)) (now (joints .entry)) (now (kinds .entry)) (now (parents .entry)) (now (numbers .entry))) count moving base positions entries (now (speeds .entry)) [] startSums) (now (output .entry)) ⌝ }
+{
+    let begun = check_start(
+        links,
+        joints,
+        kinds,
+        parents,
+        numbers,
+        count,
+        moving,
+        base,
+        positions,
+        entries,
+    );
+    let Checked::Good = begun else {
+        return number_of(begun);
+    };
+    let speed = check_list(speeds, moving);
+    let Checked::Good = speed else {
+        return number_of(speed);
+    };
+    let length = check_output(mode, output.len(), moving);
+    let Checked::Good = length else {
+        return number_of(length);
+    };
+    let root = velocity_root(mode, base);
+    let poses = pose_table(positions, entries);
+    solve_velocity(
+        mode,
+        links,
+        joints,
+        kinds,
+        parents,
+        numbers,
+        count,
+        moving,
+        base.frame.rotation,
+        root,
+        &poses,
+        speeds,
+        output,
+    );
+    check_figures(output)
+}
