@@ -30,7 +30,7 @@ fn half_turn(s: f64, c: f64, axis: Vector3) -> Quaternion
 }
 
 // A pose of another kind than the joint's leaves the origin.
-pub fn joint_frame(kind: JointType, origin: Frame, axis: Vector3, pose: Pose) -> Frame
+pub(crate) fn joint_frame(kind: JointType, origin: Frame, axis: Vector3, pose: Pose) -> Frame
     ensures { λ r. ⌜ r ≡ jointFrame kind origin axis pose ⌝ }
 {
     match kind {
@@ -105,7 +105,7 @@ fn pose_in(kind: JointType, number: usize, poses: &[f64]) -> Pose
 }
 
 // A joint's frame at its pose in the list.
-pub fn frame_in(joint: Joint, poses: &[f64]) -> Frame
+pub(crate) fn frame_in(joint: Joint, poses: &[f64]) -> Frame
     requires { ⌜ (moves (joint .kind) ≡ true → joint .number * 2 + 1 < length (now poses)) ⌝ }
     ensures { λ r. ⌜ r ≡ jointFrame (joint .kind) (joint .origin) (joint .axis) (poseIn (joint .kind) (joint .number) (now (poses .entry))) ⌝ }
 {
@@ -116,7 +116,7 @@ pub fn frame_in(joint: Joint, poses: &[f64]) -> Frame
 }
 
 // The same frame, made part by part: gravity has code of its own, since what two kernels share is inlined in neither.
-pub fn parts_in(joint: Joint, poses: &[f64]) -> Frame
+pub(crate) fn parts_in(joint: Joint, poses: &[f64]) -> Frame
     requires { ⌜ (moves (joint .kind) ≡ true → joint .number * 2 + 1 < length (now poses)) ⌝ }
     ensures { λ r. ⌜ r ≡ jointFrame (joint .kind) (joint .origin) (joint .axis) (poseIn (joint .kind) (joint .number) (now (poses .entry))) ⌝ }
 {
@@ -132,7 +132,7 @@ pub fn parts_in(joint: Joint, poses: &[f64]) -> Frame
 }
 
 // What fills an array of frames at first.
-pub fn zero_frame() -> Frame
+pub(crate) fn zero_frame() -> Frame
     ensures { λ r. ⌜ r ≡ zeroFrame ⌝ }
 {
     let rotation = Quaternion {

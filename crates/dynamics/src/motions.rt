@@ -124,7 +124,7 @@ fn value_in(kind: JointType, number: usize, list: &[f64]) -> f64
 }
 
 // A joint's step, at its speed and acceleration in the lists.
-pub fn moved_in<'a>(
+pub(crate) fn moved_in<'a>(
     joint: Joint,
     frame: Frame,
     speeds: &'a [f64],
@@ -156,7 +156,7 @@ fn inertial_wrench(link: Link, m: Motion) -> Wrench
     }
 }
 
-pub fn inertial_wrench_at(links: &[f64], l: usize, m: Motion) -> Wrench
+pub(crate) fn inertial_wrench_at(links: &[f64], l: usize, m: Motion) -> Wrench
     requires { ⌜ (l < 64) × (length (now links) ≡ 832) ⌝ }
     ensures { λ r. ⌜ r ≡ inertialWrench (linkAt (now (links .entry)) l) m ⌝ }
 {
@@ -179,7 +179,7 @@ fn root_wrench(link: Link, m: Motion) -> Wrench
     }
 }
 
-pub fn root_wrench_at(links: &[f64], m: Motion) -> Wrench
+pub(crate) fn root_wrench_at(links: &[f64], m: Motion) -> Wrench
     requires { ⌜ length (now links) ≡ 832 ⌝ }
     ensures { λ r. ⌜ r ≡ inertialWrench (linkAt (now (links .entry)) 0) m ⌝ }
 {
@@ -188,7 +188,7 @@ pub fn root_wrench_at(links: &[f64], m: Motion) -> Wrench
 }
 
 // What fills an array of motions at first.
-pub fn zero_motion() -> Motion
+pub(crate) fn zero_motion() -> Motion
     ensures { λ r. ⌜ r ≡ zeroMotion ⌝ }
 {
     let zero = zero_vector();

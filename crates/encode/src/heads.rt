@@ -72,7 +72,7 @@ fn put_start(out: &mut [u8], size: usize, function: u8, mode: u8)
     put_u8(out, 7, mode);
 }
 
-pub fn put_head(
+pub(crate) fn put_head(
     out: &mut [u8],
     function: Function,
     mode: RootMode,

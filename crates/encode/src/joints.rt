@@ -14,7 +14,7 @@ fn joint_writable(kind: u8, parent: usize, number: usize) -> bool
     (kind <= 2) & (((kind != 0) | (number == 65535)) & ((parent < 65536) & (number < 65536)))
 }
 
-pub fn joints_writable<'a>(
+pub(crate) fn joints_writable<'a>(
     kinds: &'a [u8],
     parents: &'a [usize],
     numbers: &'a [usize],
@@ -52,7 +52,7 @@ fn put_joint(
     put_floats(out, at + 5, &joints[from..end]);
 }
 
-pub fn put_joints<'a>(
+pub(crate) fn put_joints<'a>(
     out: &mut [u8],
     at: usize,
     joints: &'a [f64],

@@ -32,7 +32,7 @@ fn put_pose(out: &mut [u8], at: usize, pose: Pose)
     }
 }
 
-pub fn put_poses(out: &mut [u8], at: usize, positions: [Pose; 63], m: usize)
+pub(crate) fn put_poses(out: &mut [u8], at: usize, positions: [Pose; 63], m: usize)
     requires { ⌜ (m ≤ 63) × (at + 17 * m ≤ length (now out)) ⌝ }
     ensures { λ _. ⌜ now (out .exit) ≡ placed (now (out .entry)) at (joined m (poseBytes positions)) ⌝ }
 {
@@ -54,7 +54,7 @@ fn put_load(out: &mut [u8], at: usize, link: usize, numbers: &[f64], from: usize
     put_floats(out, at + 2, &numbers[from..end]);
 }
 
-pub fn put_loads<'a>(out: &mut [u8], at: usize, links: &'a [usize], numbers: &'a [f64])
+pub(crate) fn put_loads<'a>(out: &mut [u8], at: usize, links: &'a [usize], numbers: &'a [f64])
     requires { ⌜ (length (now links) ≤ 256) × (at + 50 * length (now links) ≤ length (now out)) × (length (now numbers) ≡ 6 * length (now links)) ⌝ }
     ensures { λ _. ⌜ now (out .exit) ≡ placed (now (out .entry)) at (joined (length (now (links .entry))) (loadBytes (now (links .entry)) (now (numbers .entry)))) ⌝ }
 {
@@ -66,7 +66,7 @@ pub fn put_loads<'a>(out: &mut [u8], at: usize, links: &'a [usize], numbers: &'a
 }
 
 // Link numbers of two bytes.
-pub fn links_writable(links: &[usize]) -> bool
+pub(crate) fn links_writable(links: &[usize]) -> bool
     ensures { λ r. ⌜ r ≡ linksWritable (now (links .entry)) ⌝ }
 {
     let mut good = true;

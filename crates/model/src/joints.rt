@@ -14,7 +14,7 @@ use fit::unit::is_unit_vector;
 use spatial::Frame;
 use spatial::Quaternion;
 
-pub fn frame_at(s: &[f64], i: usize) -> Frame
+pub(crate) fn frame_at(s: &[f64], i: usize) -> Frame
     requires { ⌜ i + 6 < length (now s) ⌝ }
     ensures { λ r. ⌜ r ≡ frameAt (now (s .entry)) i ⌝ }
 {
@@ -31,7 +31,7 @@ pub fn frame_at(s: &[f64], i: usize) -> Frame
     }
 }
 
-pub fn kind_of(code: u8) -> JointType
+pub(crate) fn kind_of(code: u8) -> JointType
     ensures { λ r. ⌜ r ≡ kindOf code ⌝ }
 {
     match code {
@@ -106,7 +106,7 @@ fn joints_fit<'a>(
 }
 
 // The first joints of the tables are good, but for their numbers.
-pub fn joints_good<'a>(
+pub(crate) fn joints_good<'a>(
     joints: &'a [f64],
     kinds: &'a [u8],
     parents: &'a [usize],

@@ -12,7 +12,7 @@ use spatial::Matrix3;
 use spatial::Vector3;
 use spatial::vectors::scale;
 
-pub fn vector_at(s: &[f64], i: usize) -> Vector3
+pub(crate) fn vector_at(s: &[f64], i: usize) -> Vector3
     requires { ⌜ i + 2 < length (now s) ⌝ }
     ensures { λ r. ⌜ r ≡ vectorAt (now (s .entry)) i ⌝ }
 {
@@ -63,7 +63,7 @@ fn masses_good(links: &[f64], count: usize) -> bool
 }
 
 // The first links of the table are good.
-pub fn links_good(links: &[f64], count: usize) -> bool
+pub(crate) fn links_good(links: &[f64], count: usize) -> bool
     requires { ⌜ (count ≤ 64) × (length (now links) ≡ 832) ⌝ }
     ensures { λ r. ⌜ r ≡ all count (λ l. goodLink (linkAt (now (links .entry)) l)) ⌝ }
 {

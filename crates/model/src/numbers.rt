@@ -10,7 +10,7 @@ ghost use Rattle.model.specs.Numbers.{numberFits, numbered};
 ghost use Rattle.model.specs.Marks.{noMarks, slotOf, numberingIn};
 
 // A number below m has a place of its own; place 63 is for all others.
-pub fn slot(number: usize, moving: usize) -> usize
+pub(crate) fn slot(number: usize, moving: usize) -> usize
     ensures { λ r. ⌜ r ≡ slotOf number moving ⌝ }
 {
     if number < moving {
@@ -49,7 +49,12 @@ fn all_held(held: [bool; 64], moving: usize) -> bool
 }
 
 // The moving joints among the first hold 0 to m-1, each exactly once, and the fixed ones none.
-pub fn numbers_good<'a>(kinds: &'a [u8], numbers: &'a [usize], count: usize, moving: usize) -> bool
+pub(crate) fn numbers_good<'a>(
+    kinds: &'a [u8],
+    numbers: &'a [usize],
+    count: usize,
+    moving: usize,
+) -> bool
     requires { ⌜ (count ≤ 63) × (moving ≤ 63) × (length (now kinds) ≡ 63) × (length (now numbers) ≡ 63) ⌝ }
     ensures { λ r. ⌜ r ≡ numbered (numberingIn (now (kinds .entry)) (now (numbers .entry)) count moving) ⌝ }
 {

@@ -16,7 +16,7 @@ use model::poses::check_positions;
 use model::tables::check_tables;
 
 // m places in fixed mode, 6 more in floating mode.
-pub fn check_output(mode: RootMode, length: usize, moving: usize) -> Checked
+pub(crate) fn check_output(mode: RootMode, length: usize, moving: usize) -> Checked
     ensures { λ r. ⌜ r ≡ outputChecked mode moving length ⌝ }
 {
     match mode {
@@ -37,7 +37,7 @@ pub fn check_output(mode: RootMode, length: usize, moving: usize) -> Checked
 }
 
 // The model, the base state and the positions, over lent tables.
-pub fn check_start<'a>(
+pub(crate) fn check_start<'a>(
     links: &'a [f64],
     joints: &'a [f64],
     kinds: &'a [u8],

@@ -30,7 +30,7 @@ fn no_table() -> [f64; 126]
 }
 
 // s and c of a pair; a distance, and a number that is not read.
-pub fn pose_table(positions: [Pose; 63], entries: usize) -> [f64; 126]
+pub(crate) fn pose_table(positions: [Pose; 63], entries: usize) -> [f64; 126]
     requires { ⌜ entries ≤ 63 ⌝ }
     ensures { λ r. ⌜ (length r ≡ 126) × Tabled positions entries r ⌝ }
 {

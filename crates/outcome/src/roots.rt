@@ -26,7 +26,7 @@ fn in_mode(mode: RootMode, twist: Twist) -> Twist
     }
 }
 
-pub fn inverse_root(mode: RootMode, base: BaseState) -> Motion
+pub(crate) fn inverse_root(mode: RootMode, base: BaseState) -> Motion
     ensures { λ r. ⌜ r ≡ rootMotion (base .frame .rotation) (inMode mode (base .velocity)) (inMode mode (base .acceleration)) standardGravity ⌝ }
 {
     let velocity = in_mode(mode, base.velocity);
@@ -40,7 +40,7 @@ pub fn inverse_root(mode: RootMode, base: BaseState) -> Motion
 }
 
 // Gravity and the base acceleration are +0.
-pub fn velocity_root(mode: RootMode, base: BaseState) -> Motion
+pub(crate) fn velocity_root(mode: RootMode, base: BaseState) -> Motion
     ensures { λ r. ⌜ r ≡ rootMotion (base .frame .rotation) (inMode mode (base .velocity)) zeroTwist zeroVector ⌝ }
 {
     let velocity = in_mode(mode, base.velocity);
@@ -48,7 +48,7 @@ pub fn velocity_root(mode: RootMode, base: BaseState) -> Motion
 }
 
 // 8 where a figure is not finite.
-pub fn check_figures(output: &[f64]) -> u8
+pub(crate) fn check_figures(output: &[f64]) -> u8
     ensures { λ r. ⌜ r ≡ cond (allFinite (now (output .entry))) 0 8 ⌝ }
 {
     if finite_numbers(output) {
@@ -58,7 +58,7 @@ pub fn check_figures(output: &[f64]) -> u8
 }
 
 // Velocity product's joint accelerations.
-pub fn no_accelerations() -> [f64; 63]
+pub(crate) fn no_accelerations() -> [f64; 63]
     ensures { λ r. ⌜ r ≡ noAccelerations ⌝ }
 {
     [0.0; 63]

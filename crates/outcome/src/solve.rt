@@ -23,7 +23,7 @@ use spatial::Quaternion;
 use spatial::Vector3;
 use spatial::Wrench;
 
-pub fn solve_inverse<'a>(
+pub(crate) fn solve_inverse<'a>(
     mode: RootMode,
     links: &'a [f64],
     joints: &'a [f64],
@@ -81,7 +81,7 @@ pub fn solve_inverse<'a>(
 }
 
 // No joint accelerations and no loads.
-pub fn solve_velocity<'a>(
+pub(crate) fn solve_velocity<'a>(
     mode: RootMode,
     links: &'a [f64],
     joints: &'a [f64],
@@ -139,7 +139,7 @@ pub fn solve_velocity<'a>(
     }
 }
 
-pub fn solve_gravity<'a>(
+pub(crate) fn solve_gravity<'a>(
     mode: RootMode,
     links: &'a [f64],
     joints: &'a [f64],

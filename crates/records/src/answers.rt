@@ -24,7 +24,7 @@ fn put_head(out: &mut [u8], number: u8, n: usize)
 }
 
 // How many bytes were written: all of the record, or none where it does not fit.
-pub fn put_answer(number: u8, figures: &[f64], out: &mut [u8]) -> usize
+pub(crate) fn put_answer(number: u8, figures: &[f64], out: &mut [u8]) -> usize
     requires { ⌜ length (now figures) ≤ 69 ⌝ }
     ensures { λ r. ⌜ record { count = r; out = now (out .exit) } ≡ sent (answerBytes (record { number = number; figures = now (figures .entry) })) (now (out .entry)) ⌝ }
 {
@@ -39,7 +39,7 @@ pub fn put_answer(number: u8, figures: &[f64], out: &mut [u8]) -> usize
 }
 
 // "a refused answer has count 0"
-pub fn put_refusal(number: u8, out: &mut [u8]) -> usize
+pub(crate) fn put_refusal(number: u8, out: &mut [u8]) -> usize
     ensures { λ r. ⌜ record { count = r; out = now (out .exit) } ≡ sent (answerBytes (record { number = number; figures = [] })) (now (out .entry)) ⌝ }
 {
     if out.len() < 9 {

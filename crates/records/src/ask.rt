@@ -65,7 +65,7 @@ fn ask_velocity(s: &[u8], c: usize, m: usize, k: usize, output: &mut [f64]) -> u
     velocity_product_forces(mode, model, base, positions, m, &speeds[..m], output)
 }
 
-pub fn ask(s: &[u8], c: usize, m: usize, k: usize, output: &mut [f64]) -> u8
+pub(crate) fn ask(s: &[u8], c: usize, m: usize, k: usize, output: &mut [f64]) -> u8
     requires { ⌜ Readable (now s) c m k ⌝ }
     ensures { λ r. ⌜ told r (now (output .exit)) ≡ outcome (callWith (now (s .entry)) (functionOf (getD (now (s .entry)) (c + 6) 0)) c m k) (now (output .entry)) ⌝ }
 {

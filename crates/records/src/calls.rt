@@ -150,7 +150,7 @@ fn load_in(s: &[u8], at: usize) -> Load
 }
 
 // The sums of k loads from a place on, for n links.
-pub fn sums_in(s: &[u8], c: usize, m: usize, k: usize, n: usize) -> LoadSums
+pub(crate) fn sums_in(s: &[u8], c: usize, m: usize, k: usize, n: usize) -> LoadSums
     requires { ⌜ (c ≤ 20000) × (m ≤ 63) × (k ≤ 256) × (loadPlace c m k ≤ length (now s)) ⌝ }
     ensures { λ r. ⌜ r ≡ preparedSums 0 n (loadsIn (now (s .entry)) c m k) ⌝ }
 {

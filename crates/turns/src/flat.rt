@@ -18,7 +18,7 @@ fn no_numbers() -> [f64; 1536]
 }
 
 // The link of each load.
-pub fn load_links(s: &[u8], c: usize, m: usize, k: usize) -> [usize; 256]
+pub(crate) fn load_links(s: &[u8], c: usize, m: usize, k: usize) -> [usize; 256]
     requires { ⌜ Readable (now s) c m k ⌝ }
     ensures { λ r. ⌜ length r ≡ 256 ⌝ }
 {
@@ -32,7 +32,7 @@ pub fn load_links(s: &[u8], c: usize, m: usize, k: usize) -> [usize; 256]
 }
 
 // Six numbers of each load.
-pub fn load_numbers(s: &[u8], c: usize, m: usize, k: usize) -> [f64; 1536]
+pub(crate) fn load_numbers(s: &[u8], c: usize, m: usize, k: usize) -> [f64; 1536]
     requires { ⌜ Readable (now s) c m k ⌝ }
     ensures { λ r. ⌜ length r ≡ 1536 ⌝ }
 {

@@ -10,7 +10,7 @@ use outcome::gravity::gravity_lent;
 use outcome::inverse::inverse_dynamics_lent;
 use outcome::velocity::velocity_product_forces_lent;
 
-pub fn repeat_inverse<'a>(
+pub(crate) fn repeat_inverse<'a>(
     turns: usize,
     mode: RootMode,
     model: Model,
@@ -52,7 +52,7 @@ pub fn repeat_inverse<'a>(
     number
 }
 
-pub fn repeat_gravity<'a>(
+pub(crate) fn repeat_gravity<'a>(
     turns: usize,
     mode: RootMode,
     model: Model,
@@ -90,7 +90,7 @@ pub fn repeat_gravity<'a>(
     number
 }
 
-pub fn repeat_velocity<'a>(
+pub(crate) fn repeat_velocity<'a>(
     turns: usize,
     mode: RootMode,
     model: Model,
@@ -125,7 +125,7 @@ pub fn repeat_velocity<'a>(
     number
 }
 
-pub fn repeat_check(turns: usize, model: Model) -> u8 {
+pub(crate) fn repeat_check(turns: usize, model: Model) -> u8 {
     let count = model.count;
     let moving = model.moving;
     let mut number = 0;
