@@ -1,17 +1,17 @@
 // Replays a script of buffer operations and counts the answers that agree with the oracle's.
 ghost use Prim.Native.Nat.{_<_, _≤_};
+use buffer::Changed;
+use buffer::LoadBuffer;
+use buffer::value::add;
+use buffer::value::clear;
+use buffer::value::len;
+use buffer::value::list;
+use buffer::value::new;
+use buffer::value::remove;
+use buffer::value::set;
 use frames::read_frame;
 use libc::STDOUT_FILENO;
-use loads::Changed;
 use loads::Load;
-use loads::LoadBuffer;
-use loads::buffer::add;
-use loads::buffer::clear;
-use loads::buffer::len;
-use loads::buffer::list;
-use loads::buffer::new;
-use loads::buffer::remove;
-use loads::buffer::set;
 use spatial::Vector3;
 use spatial::Wrench;
 use wire::read::double;

@@ -4,8 +4,6 @@ use mathlib.Core.Bool.{Bool, true, false, _&&_}
 use lib.Dec.{ltb, leb, eqb}
 use Rattle.spatial.specs.declared.Wrench.{Wrench}
 use Rattle.fit.specs.Finite.{allFinite, wrenchNumbers}
-use Rattle.loads.specs.declared.Tables.{Tables}
-use Rattle.loads.specs.declared.Tables.the-variants.{Sound, Corrupt}
 use Rattle.loads.specs.declared.LinkCount.{LinkCount}
 use Rattle.loads.specs.declared.LinkCount.the-variants.{Allowed, Refused}
 use Rattle.loads.specs.declared.LinkId.{LinkId}
@@ -27,26 +25,12 @@ abbrev pub accepted : {A : Type 0} → ℕ → A → A → A
 accepted zero new old = new
 accepted (suc n) new old = old
 
-abbrev pub tablesOf : Bool → Tables
-tablesOf true = Sound
-tablesOf false = Corrupt
-
--- "11: a buffer's two tables disagree"
-abbrev pub tablesNumber : Tables → ℕ
-tablesNumber Sound = 0
-tablesNumber Corrupt = 11
-
 abbrev pub linkCountOf : Bool → LinkCount
 linkCountOf true = Allowed
 linkCountOf false = Refused
 
 unfoldable pub linkCount : ℕ → LinkCount
 linkCount n = linkCountOf (leb 1 n && leb n 64)
-
--- "1: a new buffer's link count is not 1 to 64"
-abbrev pub linkCountNumber : LinkCount → ℕ
-linkCountNumber Allowed = 0
-linkCountNumber Refused = 1
 
 abbrev pub linkIdOf : Bool → LinkId
 linkIdOf true = Known

@@ -1,0 +1,12 @@
+pub mod CountLaws
+pub mod AgreeLaws
+pub mod ZeroLaws
+pub mod Decided
+pub mod CallLaws
+pub mod MapPut
+pub mod MapRemove
+pub mod Determined
+pub mod Runs
+pub mod ZeroSum
+pub mod ListingSums
+pub mod Worked

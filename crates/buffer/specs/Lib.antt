@@ -1,0 +1,4 @@
+pub mod Agree
+pub mod Calls
+pub mod Map
+pub mod Runs
