@@ -130,6 +130,10 @@ asked f mode b model positions speeds accelerations loads =
 abbrev pair : {A : Type 0} → A → A → List A
 pair a b = a ∷ b ∷ []
 
+-- both poses are alike, and gravity takes nothing else of a joint's lists
+abbrev numbered-as : ℕ → ℕ → Call
+numbered-as n m = asked Gravity Fixed base (arm (pair (hinge 0 n (turned one) zero₃ y) (hinge 1 m (turned one) x y)) []) (pair half half) [] [] []
+
 -- what is given changed, the rest as it stands
 abbrev based : Function → RootMode → BaseState → Call
 based f mode b = asked f mode b (arm (pair shoulder elbow) []) (pair half half) (pair one two) (pair one plusZero) []
@@ -176,7 +180,7 @@ great = fin false 1 (pos 53)
 -- ---- the tables
 
 -- The elbow's figure: function, base; of the shoulder, which is on the way: origin, axis, pose, speed, acceleration; the elbow's
--- parent; mode.
+-- parent; mode; its number, which the shoulder takes in its stead.
 pub way-needed :
     differ-from 1 as-it-stands
     (based Gravity Fixed base
@@ -189,6 +193,7 @@ pub way-needed :
     ∷ jointed shoulder (hinge 0 1 (turned one) x y)
     ∷ [])
     && differ-from 1 (based InverseDynamics Fixed spinning) (based InverseDynamics Floating spinning ∷ [])
+    && differ-from 1 (numbered-as 0 1) (numbered-as 1 0 ∷ [])
     ≡ true
 unfolding toBits size fits outcome refusal startChecked figures listOf goodBase goodModel countsFit numbered numberedAt taken holderOf goodJoint fitsJoint axisFits goodLink weighs positionsChecked poseChecked first kindOfNumber listChecked all allFinite isFinite unitPair unitQuaternion unitVector isUnit vectorSum scaled crossed dotted inverted multiplied rotated matrixOf transformed wrenchSum wrenchToParent worldWrench standardGravity zeroVector zeroTwist zeroWrench le add sub mul neg climb valueAt total totalOf rootSum linkId finiteness amount startSums sumStep sumFrom loadSums preparedSums valueIn halfTurn jointFrame rootMotion accelerationAt carried turning sliding driven moved inertialWrench Weights.turned gravityWrench frameOf figure figureOf rootOf
 way-needed = refl
