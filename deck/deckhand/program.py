@@ -3,6 +3,7 @@
 import os
 import platform
 import shlex
+import shutil
 import subprocess
 from pathlib import Path
 
@@ -17,6 +18,25 @@ class ProgramError(Exception):
     """The program is missing, failed, or wrote no answer record."""
 
 
+def is_native(path):
+    """Whether a file is no x86-64 program, or this machine is an x86-64."""
+    with open(path, "rb") as file:
+        head = file.read(20)
+    return platform.machine().lower() in NATIVE or head[:4] != b"\x7fELF" or head[18:] != b"\x3e\0"
+
+
+def runner(path):
+    """What goes before a program on a machine that is no x86-64: RUNNER, else for an x86-64 program the emulator that the Rattle kit has there."""
+    machine = platform.machine()
+    if os.environ.get("RUNNER") and machine.lower() not in NATIVE:
+        return shlex.split(os.environ["RUNNER"])
+    tools = Path(shutil.which("rt") or "rt").resolve().parent.parent / "on" / machine / "toolchain"
+    words = [tools / "bin" / "qemu-x86_64", tools / "lib" / "ld-linux-x86-64.so.2"]
+    if is_native(path) or not all(word.is_file() for word in words):
+        return []
+    return [*map(str, words), "--library-path", str(tools / "lib")]
+
+
 def command(given=None):
     """The command to run, as words: what was given, else FIGURES, else the usual place."""
     said = given or os.environ.get("FIGURES") or str(USUAL)
@@ -25,8 +45,7 @@ def command(given=None):
         raise ProgramError(f"no program at {said}; name one with --program or the environment variable FIGURES")
     if "/" not in words[0]:
         words[0] = "./" + words[0]
-    runner = os.environ.get("RUNNER", "")
-    return (shlex.split(runner) if platform.machine().lower() not in NATIVE else []) + words
+    return runner(words[0]) + words
 
 
 def output_of(words, data):
