@@ -538,7 +538,8 @@ class Commands(unittest.TestCase):
         emulated = [*map(str, files), "--library-path", str(files[1].parent), str(built)]
         script = self.stand_in(b"")
         with mock.patch.dict(os.environ, {"RUNNER": ""}), mock.patch("shutil.which", return_value=str(kit / "bin" / "rt")):
-            for machine, path, words in (("aarch64", str(built), emulated), ("aarch64", script, [script]), ("x86_64", str(built), [str(built)]), ("riscv64", str(built), [str(built)])):
+            cases = (("aarch64", str(built), emulated), ("aarch64", script, [script]))
+            for machine, path, words in (*cases, ("x86_64", str(built), [str(built)]), ("riscv64", str(built), [str(built)])):
                 with mock.patch("platform.machine", return_value=machine):
                     self.assertEqual(program.command(path), words)
 
