@@ -1,23 +1,22 @@
--- Laws of the finite test: x - x decides it, a list's numbers may be taken one by one or part by part, and +0 is bits 0.
-use Prim.Native.Nat.{ℕ, zero, suc, _+_, _*_, _-_, _^_, _/_, _<_, _≤_}
+-- Laws of the finite test: x - x decides it, products and sums keep it, a list's numbers may be taken one by one or part by part, and +0 is bits 0.
+use Prim.Native.Nat.{ℕ, zero, suc, _+_, _*_, _<_}
 use mathlib.Core.Path.{_≡_, refl, _∙_, sym, ap, subst}
-use mathlib.Core.Bool.{Bool, true, false, not, _&&_}
+use mathlib.Core.Bool.{Bool, true, false, not, cond, _&&_}
 use mathlib.Core.List.{List, [], _∷_, _++_}
 use native.Mathlib.Omega.{arith}
 use native.Mathlib.Decide.{ℕ-discrete}
-use native.Mathlib.Nat.{sub-self, zero-mul, zero-div, suc-mul, mul-pos, le-refl}
-use lib.IntN.{ℤ, pos, negsuc}
+use native.Mathlib.Nat.{sub-self, zero-mul, zero-div, mul-pos, le-refl}
+use lib.IntN.{pos}
 use lib.Dec.{T, eqb}
-use lib.ListN.{length, take, drop, getD}
-use lib.Seq.{take-suc, take-add, drop-cons}
+use lib.ListN.{length, take, getD}
+use lib.Seq.{take-suc}
 use native.Mathlib.Numerals.{add-one}
-use lib.Ieee.{Float, nan, inf, fin, binary64, add, sub, sum, neg, eq, ne, isNan, fits, ofBits, toBits, round, size, up, down}
+use lib.Ieee.{Float, nan, inf, fin, binary64, add, sub, mul, sum, neg, eq, ne, isNan, fits, ofBits, toBits, round, size, up, down, unlike}
 use lib.Ieee.Bits.{ofBits-toBits}
 use lib.Ieee.Compare.{differs-from-itself}
 use lib.Ieee.Fits.{down-pos}
 use lib.Ieee.Scale.{round-same}
 use borrow.Author.Tests.{le-ltb, eq-eqb, ne-eqb}
-use Rattle.spatial.specs.All.{all}
 use Rattle.spatial.proofs.BoolLaws.{and-assoc, and-true}
 use Rattle.fit.specs.Finite.{isFinite, allFinite, isPlusZero}
 
@@ -39,6 +38,51 @@ sub-finite nan = refl
 sub-finite (inf true) = refl
 sub-finite (inf false) = refl
 sub-finite (fin s m e) = rw (sum-zero s (m * up e * down e) (down e * down e) (mul-pos (down-pos e) (down-pos e)))
+
+-- a NaN or an infinity, whichever
+unbounded : (b s : Bool) → isFinite (cond b nan (inf s)) ≡ true → ⊥
+unfolding isFinite
+unbounded true s h = subst T (sym h) tt
+unbounded false s h = subst T (sym h) tt
+
+-- a finite product has finite factors, a finite sum finite terms
+pub finite-mul : (x y : Float) → isFinite (mul binary64 x y) ≡ true → (isFinite x ≡ true) × (isFinite y ≡ true)
+unfolding isFinite mul
+finite-mul nan y h = absurd (subst T (sym h) tt)
+finite-mul (inf s) nan h = absurd (subst T (sym h) tt)
+finite-mul (inf s) (inf t) h = absurd (subst T (sym h) tt)
+finite-mul (inf s) (fin t n d) h = absurd (unbounded (eqb n 0) _ h)
+finite-mul (fin s m e) nan h = absurd (subst T (sym h) tt)
+finite-mul (fin s m e) (inf t) h = absurd (unbounded (eqb m 0) _ h)
+finite-mul (fin s m e) (fin t n d) h = (refl, refl)
+
+pub finite-add : (x y : Float) → isFinite (add binary64 x y) ≡ true → (isFinite x ≡ true) × (isFinite y ≡ true)
+unfolding isFinite add
+finite-add nan y h = absurd (subst T (sym h) tt)
+finite-add (inf s) nan h = absurd (subst T (sym h) tt)
+finite-add (inf true) (inf true) h = absurd (subst T (sym h) tt)
+finite-add (inf true) (inf false) h = absurd (subst T (sym h) tt)
+finite-add (inf false) (inf true) h = absurd (subst T (sym h) tt)
+finite-add (inf false) (inf false) h = absurd (subst T (sym h) tt)
+finite-add (inf s) (fin t n d) h = absurd (subst T (sym h) tt)
+finite-add (fin s m e) nan h = absurd (subst T (sym h) tt)
+finite-add (fin s m e) (inf t) h = absurd (subst T (sym h) tt)
+finite-add (fin s m e) (fin t n d) h = (refl, refl)
+
+-- +0 or -0
+abbrev pub Zero : Float → Type 0
+Zero x = (s : Bool) × (x ≡ fin s 0 (pos 0))
+
+pub zero-finite : (x : Float) → Zero x → isFinite x ≡ true
+unfolding isFinite
+zero-finite x z = ap isFinite (z .1)
+
+-- 0 times a finite number is 0
+pub zero-mul-finite : (z x : Float) → Zero z → isFinite x ≡ true → Zero (mul binary64 z x)
+unfolding isFinite mul
+zero-mul-finite z nan h k = absurd (subst T (sym k) tt)
+zero-mul-finite z (inf t) h k = absurd (subst T (sym k) tt)
+zero-mul-finite z (fin t n d) (s, e) k = (unlike s t, rw e (simp zero-mul (round-zero (unlike s t) (down (pos 0) * down d) (mul-pos (down-pos (pos 0)) (down-pos d)))))
 
 -- ---- the numbers of a list
 
@@ -77,28 +121,6 @@ all-four w x y z =
 -- three lists, as code takes them together
 pub all-parts : (xs ys zs : List Float) → ((allFinite xs && allFinite ys) && allFinite zs) ≡ allFinite (xs ++ (ys ++ zs))
 all-parts xs ys zs = and-assoc (allFinite xs) (allFinite ys) (allFinite zs) ∙ sym (all-append xs (ys ++ zs) ∙ ap (λ (b : Bool). allFinite xs && b) (all-append ys zs))
-
--- blocks of k numbers each, of which the l-th is f l
-pub all-blocks : (xs : List Float) (k n : ℕ) (f : ℕ → List Float) → ((l : ℕ) → l < n → take k (drop (l * k) xs) ≡ f l) → allFinite (take (n * k) xs) ≡ all n (λ l. allFinite (f l))
-unfolding all allFinite
-all-blocks xs k zero f h = rw zero-mul
-all-blocks xs k (suc n) f h =
-    rw (suc-mul, take-add (n * k) k xs)
-    (all-append (take (n * k) xs) (take k (drop (n * k) xs))
-    ∙ ap (λ (b : Bool). b && allFinite (take k (drop (n * k) xs))) (all-blocks xs k n f (λ l m. h l (omega arith)))
-    ∙ ap (λ (ys : List Float). all n (λ l. allFinite (f l)) && allFinite ys) (h n (omega arith)))
-
--- the k numbers from place i + o on
-unfoldable pub cells : List Float → ℕ → ℕ → ℕ → List Float
-cells xs i o zero = []
-cells xs i o (suc k) = getD xs (i + o) nan ∷ cells xs i (o + 1) k
-
-pub take-cells : (xs : List Float) (i o k : ℕ) → i + o + k ≤ length xs → take k (drop (i + o) xs) ≡ cells xs i o k
-unfolding cells
-take-cells xs i o zero h = refl
-take-cells xs i o (suc k) h =
-    rw (drop-cons xs (i + o) nan (omega arith))
-    (ap (λ (ys : List Float). getD xs (i + o) nan ∷ ys) (let e : suc (i + o) ≡ i + (o + 1) = omega arith in rw e (take-cells xs i (o + 1) k (omega arith))))
 
 -- ---- +0
 

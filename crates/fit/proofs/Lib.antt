@@ -1,2 +1,3 @@
 pub mod FiniteLaws
+pub mod UnitLaws
 pub mod Worked

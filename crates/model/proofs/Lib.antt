@@ -1,6 +1,6 @@
-pub mod BlockLaws
 pub mod NumberLaws
 pub mod Pigeonhole
 pub mod NumberedLaws
 pub mod PoseLaws
 pub mod GoodLaws
+pub mod ProductLaws

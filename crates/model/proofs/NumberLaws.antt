@@ -1,17 +1,17 @@
 -- Laws of the moving numbers: what the marks mean, and that the decision says the rule.
-use Prim.Native.Nat.{ℕ, zero, suc, _+_, _<_, _≤_}
+use Prim.Native.Nat.{ℕ, _+_, _<_, _≤_}
 use mathlib.Core.Path.{_≡_, refl, sym, ap, _∙_}
 use mathlib.Core.Bool.{Bool, true, false, not, cond, _&&_, _||_}
 use mathlib.Core.List.{List}
-use mathlib.Core.Logic.{_⊎_, inl, inr, ⊎-elim}
+use mathlib.Core.Logic.{_⊎_, ⊎-elim}
 use native.Mathlib.Decide.{ℕ-discrete}
 use native.Mathlib.Numerals.{add-one}
 use native.Mathlib.Omega.{arith}
-use lib.Dec.{eqb, ltb}
+use lib.Dec.{eqb}
 use lib.ListN.{length, getD, set, getD-replicate}
 use lib.Seq.{getD-set-same, getD-set-other}
-use borrow.Author.Tests.{lt-ltb, le-ltb, ltb-true, ltb-false, eq-eqb, ne-eqb}
-use Rattle.spatial.proofs.BoolLaws.{and-false, and-true, lt-or-ge}
+use borrow.Author.Tests.{lt-ltb, le-ltb, eq-eqb, ne-eqb}
+use Rattle.spatial.proofs.BoolLaws.{and-false, or-right, lt-or-ge}
 use Rattle.spatial.specs.All.{all}
 use Rattle.spatial.proofs.AllLaws.{all-turn, all-same}
 use Rattle.model.specs.declared.JointType.{JointType}
@@ -22,10 +22,9 @@ use Rattle.model.specs.Numbers.{Numbering, holds, taken, numberFits, num
 use Rattle.model.specs.Poses.{kindOfNumber}
 use Rattle.model.specs.Marks.{noMarks, slotOf, noCodes, Coded}
 
-or-false : (a b : Bool) → (a || (b && false)) ≡ a
-or-false true b = refl
-or-false false true = refl
-or-false false false = refl
+or-false : (a : Bool) → (a || false) ≡ a
+or-false true = refl
+or-false false = refl
 
 -- ---- a kind as the table has it
 
@@ -40,14 +39,6 @@ moves-other code n = rw (ne-eqb code 0 n) (pick (eqb code 1))
     pick : (b : Bool) → moves (cond b Revolute Prismatic) ≡ true
     pick true = refl
     pick false = refl
-
--- as code asks it
-pub moves-code : (code : ℕ) → not (eqb code 0) ≡ moves (kindOf code)
-moves-code code = go (ℕ-discrete code 0)
-  where
-    go : Dec (code ≡ 0) → not (eqb code 0) ≡ moves (kindOf code)
-    go (yes e) = ap not (eq-eqb code 0 e) ∙ sym (moves-fixed code e)
-    go (no n) = ap not (ne-eqb code 0 n) ∙ sym (moves-other code n)
 
 -- ---- places
 
@@ -96,18 +87,25 @@ module _ (t : Numbering) (j : ℕ) (held : List Bool) (small : t .moving ≤ 63)
   pub good-turn : (good now : Bool) → good ≡ all j (numberedAt t) → now ≡ numberFits (t .moves j) (t .number j) (t .moving) (not (getD held place false)) → (good && now) ≡ all (j + 1) (numberedAt t)
   good-turn good now g h = all-turn (numberedAt t) j good now g (h ∙ fits-now)
 
-  pub marks-turn : (m : Bool) → m ≡ t .moves j → Marked t (j + 1) (set held place (getD held place false || m))
+  -- a moving joint marks its place
+  pub marks-turn : t .moves j ≡ true → Marked t (j + 1) (set held place true)
   unfolding taken
-  marks-turn m h n l = rw (add-one, h) (go (ℕ-discrete n place))
+  marks-turn m n l = rw (add-one, m) (go (ℕ-discrete n place))
     where
-      go : Dec (n ≡ place) → getD (set held place (getD held place false || t .moves j)) n false ≡ (taken t j n || holds t n j)
+      go : Dec (n ≡ place) → getD (set held place true) n false ≡ (taken t j n || eqb (t .number j) n)
       go (yes q) =
-          rw (q, getD-set-same held place (getD held place false || t .moves j) false (rw e (omega (arith, slot-small (t .number j) (t .moving) small, long))))
-          (rw (← q, inv n l, eq-eqb (t .number j) n (slot-own (t .number j) (t .moving) small n l (q ∙ e)), and-true (t .moves j)))
+          ap (λ (i : ℕ). getD (set held place true) i false) q
+          ∙ getD-set-same held place true false (rw e (omega (arith, slot-small (t .number j) (t .moving) small, long)))
+          ∙ sym (or-right (taken t j n) _ (eq-eqb (t .number j) n (slot-own (t .number j) (t .moving) small n l (q ∙ e))))
       go (no q) =
-          getD-set-other held place n (getD held place false || t .moves j) false q
+          getD-set-other held place n true false q
           ∙ inv n l
-          ∙ sym (rw (ne-eqb (t .number j) n (slot-other (t .number j) (t .moving) n l (λ r. q (r ∙ sym e)))) (or-false (taken t j n) (t .moves j)))
+          ∙ sym (rw (ne-eqb (t .number j) n (slot-other (t .number j) (t .moving) n l (λ r. q (r ∙ sym e)))) (or-false (taken t j n)))
+
+-- a fixed one marks none
+pub marks-stay : (t : Numbering) (j : ℕ) (held : List Bool) → Marked t j held → t .moves j ≡ false → Marked t (j + 1) held
+unfolding taken
+marks-stay t j held inv m n l = rw (add-one, m) (inv n l ∙ sym (or-false (taken t j n)))
 
 -- the two halves of the decision, from the marks
 pub numbered-end : (t : Numbering) (j : ℕ) (held : List Bool) (good filled : Bool) → j ≤ t .count → t .count ≤ j → good ≡ all j (numberedAt t) → Marked t j held → filled ≡ all (t .moving) (λ n. getD held n false) → (good && filled) ≡ numbered t

@@ -9,3 +9,4 @@ pub mod Bases
 pub mod Poses
 pub mod Lists
 pub mod Marks
+pub mod Products

@@ -3,18 +3,20 @@ ghost use mathlib.Core.Path.{_≡_};
 ghost use Prim.Native.Nat.{_+_, _<_, _≤_};
 ghost use lib.ListN.{length, getD};
 ghost use Rattle.spatial.specs.All.{all};
-ghost use Rattle.model.specs.Flat.{frameAt, kindOf, jointAt, Tables, Sized};
+ghost use Rattle.model.specs.Flat.{frameAt, kindOf, jointAt};
 ghost use Rattle.model.specs.Joints.{axisFits, fits, goodJoint};
 use crate::Joint;
 use crate::JointType;
+use crate::links::times;
 use crate::links::vector_at;
-use fit::finite::finite_numbers;
+use fit::finite::finite_vector;
 use fit::unit::is_unit_quaternion;
 use fit::unit::is_unit_vector;
 use spatial::Frame;
 use spatial::Quaternion;
+use spatial::constants::zero_vector;
 
-pub(crate) fn frame_at(s: &[f64], i: usize) -> Frame
+pub fn frame_at(s: &[f64], i: usize) -> Frame
     requires { ⌜ i + 6 < length (now s) ⌝ }
     ensures { λ r. ⌜ r ≡ frameAt (now (s .entry)) i ⌝ }
 {
@@ -85,27 +87,7 @@ fn joint_fits(j: usize, code: u8, joint: Joint) -> bool
     (code <= 2) & (joint.parent <= j) & turn & axis
 }
 
-fn joints_fit<'a>(
-    joints: &'a [f64],
-    kinds: &'a [u8],
-    parents: &'a [usize],
-    numbers: &'a [usize],
-    count: usize,
-) -> bool
-    requires { ⌜ (count ≤ 63) × (length (now joints) ≡ 630) × (length (now kinds) ≡ 63) × (length (now parents) ≡ 63) × (length (now numbers) ≡ 63) ⌝ }
-    ensures { λ r. ⌜ r ≡ all count (λ j. fits j (getD (now (kinds .entry)) j 0) (jointAt (now (joints .entry)) (now (kinds .entry)) (now (parents .entry)) (now (numbers .entry)) j)) ⌝ }
-{
-    let mut good = true;
-    let mut j = 0;
-    while j < count {
-        let joint = joint_at(joints, kinds, parents, numbers, j);
-        good = good & joint_fits(j, kinds[j], joint);
-        j += 1;
-    }
-    good
-}
-
-// The first joints of the tables are good, but for their numbers.
+// The first joints of the tables are good, but for their numbers. A rotation of unit length is finite.
 pub(crate) fn joints_good<'a>(
     joints: &'a [f64],
     kinds: &'a [u8],
@@ -116,8 +98,17 @@ pub(crate) fn joints_good<'a>(
     requires { ⌜ (count ≤ 63) × (length (now joints) ≡ 630) × (length (now kinds) ≡ 63) × (length (now parents) ≡ 63) × (length (now numbers) ≡ 63) ⌝ }
     ensures { λ r. ⌜ r ≡ all count (λ j. goodJoint j (getD (now (kinds .entry)) j 0) (jointAt (now (joints .entry)) (now (kinds .entry)) (now (parents .entry)) (now (numbers .entry)) j)) ⌝ }
 {
-    let end = count * 10;
-    let finite = finite_numbers(&joints[0..end]);
-    let fit = joints_fit(joints, kinds, parents, numbers, count);
-    finite & fit
+    let mut good = true;
+    let mut a = zero_vector();
+    let mut b = zero_vector();
+    let mut j = 0;
+    while j < count {
+        let joint = joint_at(joints, kinds, parents, numbers, j);
+        a = times(a, joint.origin.translation);
+        b = times(b, joint.axis);
+        good = good & joint_fits(j, kinds[j], joint);
+        j += 1;
+    }
+    let finite = finite_vector(times(a, b));
+    good & finite
 }

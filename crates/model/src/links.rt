@@ -4,15 +4,16 @@ ghost use Prim.Native.Nat.{_+_, _<_, _≤_};
 ghost use lib.ListN.{length};
 ghost use Rattle.spatial.specs.All.{all};
 ghost use Rattle.model.specs.Flat.{vectorAt, linkAt};
-ghost use Rattle.model.specs.Links.{weighs, goodLink};
+ghost use Rattle.model.specs.Links.{goodLink};
+ghost use Rattle.model.specs.Products.{timesEach};
 use crate::Link;
-use fit::finite::finite_numbers;
 use fit::finite::finite_vector;
 use spatial::Matrix3;
 use spatial::Vector3;
+use spatial::constants::zero_vector;
 use spatial::vectors::scale;
 
-pub(crate) fn vector_at(s: &[f64], i: usize) -> Vector3
+pub fn vector_at(s: &[f64], i: usize) -> Vector3
     requires { ⌜ i + 2 < length (now s) ⌝ }
     ensures { λ r. ⌜ r ≡ vectorAt (now (s .entry)) i ⌝ }
 {
@@ -40,35 +41,34 @@ pub fn link_at(links: &[f64], l: usize) -> Link
     }
 }
 
-// The mass is at least 0, and mass times each centre coordinate is finite.
-fn mass_good(link: Link) -> bool
-    ensures { λ r. ⌜ r ≡ weighs link ⌝ }
+// Number by number: 0 stays 0 as long as it meets finite numbers, and is a NaN after any other.
+pub(crate) fn times(a: Vector3, b: Vector3) -> Vector3
+    ensures { λ r. ⌜ r ≡ timesEach a b ⌝ }
 {
-    let moment = finite_vector(scale(link.center, link.mass));
-    (0.0 <= link.mass) & moment
-}
-
-fn masses_good(links: &[f64], count: usize) -> bool
-    requires { ⌜ (count ≤ 64) × (length (now links) ≡ 832) ⌝ }
-    ensures { λ r. ⌜ r ≡ all count (λ l. weighs (linkAt (now (links .entry)) l)) ⌝ }
-{
-    let mut good = true;
-    let mut l = 0;
-    while l < count {
-        let link = link_at(links, l);
-        good = good & mass_good(link);
-        l += 1;
+    Vector3 {
+        x: a.x * b.x,
+        y: a.y * b.y,
+        z: a.z * b.z,
     }
-    good
 }
 
-// The first links of the table are good.
+// The first links of the table are good. A finite moment has a finite mass and a finite centre.
 pub(crate) fn links_good(links: &[f64], count: usize) -> bool
     requires { ⌜ (count ≤ 64) × (length (now links) ≡ 832) ⌝ }
     ensures { λ r. ⌜ r ≡ all count (λ l. goodLink (linkAt (now (links .entry)) l)) ⌝ }
 {
-    let end = count * 13;
-    let finite = finite_numbers(&links[0..end]);
-    let masses = masses_good(links, count);
-    finite & masses
+    let mut good = true;
+    let mut a = zero_vector();
+    let mut b = zero_vector();
+    let mut l = 0;
+    while l < count {
+        let link = link_at(links, l);
+        let moment = scale(link.center, link.mass);
+        a = times(times(a, moment), link.inertia.y);
+        b = times(times(b, link.inertia.x), link.inertia.z);
+        good = good & (0.0 <= link.mass);
+        l += 1;
+    }
+    let finite = finite_vector(times(a, b));
+    good & finite
 }

@@ -65,9 +65,10 @@ pub(crate) fn numbers_good<'a>(
         let code = kinds[j];
         let number = numbers[j];
         let at = slot(number, moving);
-        let before = held[at];
-        good = good & number_fits(code, number, moving, before);
-        held[at] = before | (code != 0);
+        good = good & number_fits(code, number, moving, held[at]);
+        if code != 0 {
+            held[at] = true;
+        }
         j += 1;
     }
     let filled = all_held(held, moving);

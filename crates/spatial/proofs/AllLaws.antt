@@ -2,11 +2,11 @@
 use Prim.Native.Nat.{ℕ, zero, suc, _+_, _<_, _≤_}
 use mathlib.Core.Path.{_≡_, refl, sym, ap, _∙_}
 use mathlib.Core.Bool.{Bool, true, false, _&&_}
-use mathlib.Core.Logic.{_⊎_, ⊎-elim}
+use mathlib.Core.Logic.{⊎-elim}
 use native.Mathlib.Omega.{arith}
 use native.Mathlib.Numerals.{add-one}
 use Rattle.spatial.specs.All.{all}
-use Rattle.spatial.proofs.BoolLaws.{and-left, and-right, and-both, and-false, and-cross, upto}
+use Rattle.spatial.proofs.BoolLaws.{and-left, and-right, and-both, and-false, upto}
 
 -- a loop that tests one number after another: its start, a turn, its end
 pub all-start : (f : ℕ → Bool) → true ≡ all 0 f
@@ -45,8 +45,3 @@ pub all-same : (n : ℕ) (f g : ℕ → Bool) → ((k : ℕ) → k < n → f k �
 unfolding all
 all-same zero f g h = refl
 all-same (suc n) f g h = rw (h n (omega arith), all-same n f g (λ k l. h k (omega arith)))
-
-pub all-both : (n : ℕ) (f g : ℕ → Bool) → all n (λ k. f k && g k) ≡ (all n f && all n g)
-unfolding all
-all-both zero f g = refl
-all-both (suc n) f g = ap (λ (b : Bool). b && (f n && g n)) (all-both n f g) ∙ and-cross (all n f) (all n g) (f n) (g n)

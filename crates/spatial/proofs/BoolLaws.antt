@@ -31,13 +31,6 @@ pub and-true : (a : Bool) → (a && true) ≡ a
 and-true true = refl
 and-true false = refl
 
--- two pairs of tests, taken crosswise
-pub and-cross : (a b c d : Bool) → ((a && b) && (c && d)) ≡ ((a && c) && (b && d))
-and-cross true true c d = refl
-and-cross true false true d = refl
-and-cross true false false d = refl
-and-cross false b c d = refl
-
 pub or-cases : (a b : Bool) → a || b ≡ true → (a ≡ true) ⊎ (b ≡ true)
 or-cases true b h = inl refl
 or-cases false b h = inr h

@@ -4,9 +4,10 @@ use native.Mathlib.Omega.{arith}
 use Rattle.spatial.specs.All.{all}
 use Rattle.spatial.proofs.AllLaws.{all-start}
 use Rattle.model.specs.Numbers.{numberedAt}
-use Rattle.model.proofs.NumberLaws.{Marked, marked-none, slot-small, good-turn, marks-turn, moves-code, numbered-end}
+use Rattle.model.proofs.NumberLaws.{Marked, marked-none, slot-small, good-turn, marks-turn, marks-stay, moves-fixed, moves-other, numbered-end}
 use mathlib.Core.Path.{_≡_, _∙_, ap, refl}
 use Rattle.model.specs.Marks.{numberingIn, noMarks}
+use mathlib.Core.Logic.{⊎-elim}
 use lib.ListN.{length, length-set}
 use Rattle.model.proofs.numbers.numbers_good.Statement.{statement}
 use Rattle.model.proofs.numbers.numbers_good.Tie as tie
@@ -47,14 +48,14 @@ shared-slice-read-number c = search needs
 slot-requires : tie.Need-slot-requires Inv-loop μ-loop
 slot-requires c κs = search needs
 
-array-read-before : tie.Need-array-read-before Inv-loop μ-loop
-array-read-before c = in-array c
+array-read-number-fits : tie.Need-array-read-number-fits Inv-loop μ-loop
+array-read-number-fits c = in-array c
 
 number-fits-requires : tie.Need-number-fits-requires Inv-loop μ-loop
 number-fits-requires c κs = search needs
 
 array-write-held : tie.Need-array-write-held Inv-loop μ-loop
-array-write-held c = in-array (c .before)
+array-write-held c = in-array (c .before .before)
 
 add-j : tie.Need-add-j Inv-loop μ-loop
 add-j c = search needs
@@ -64,14 +65,17 @@ loop-less c = search needs
 
 loop-again : tie.Need-loop-again Inv-loop μ-loop
 loop-again c =
-    let s = c .before .before .before .before .before .before .before .before .before in
-    let i = c .before .before .before .before .before .loop in
+    let s = c .before .before .before .before .before .before .before .before .before .before in
+    let i = c .before .before .before .before .before .before .loop in
     let t = numberingIn (s .args .kinds .now) (s .args .numbers .now) (s .args .count) (s .args .moving) in
-    let e = c .before .slot .ensures in (
+    let e = c .before .before .slot .ensures in (
       search needs,
-      length-set (i .held) _ _ ∙ i .inv .1,
-      good-turn t (i .j) (i .held) (s .pre .1) (i .inv .1) (i .inv .3) _ e _ _ (i .inv .2) (c .number-fits .ensures),
-      marks-turn t (i .j) (i .held) (s .pre .1) (i .inv .1) (i .inv .3) _ e _ (moves-code _),
+      ⊎-elim (λ k. ap length (k .1) ∙ length-set (i .held) _ _ ∙ i .inv .1) (λ k. ap length (k .1) ∙ i .inv .1) (c .if1 .came),
+      good-turn t (i .j) (i .held) (s .pre .1) (i .inv .1) (i .inv .3) _ e _ _ (i .inv .2) (c .before .number-fits .ensures),
+      ⊎-elim
+          (λ k. rw (k .1) (marks-turn t (i .j) (i .held) (s .pre .1) (i .inv .1) (i .inv .3) _ e (moves-other _ (k .0 .taken))))
+          (λ k. rw (k .1) (marks-stay t (i .j) (i .held) (i .inv .3) (moves-fixed _ (k .0 .left))))
+          (c .if1 .came),
     )
 
 all-held-requires : tie.Need-all-held-requires Inv-loop μ-loop
@@ -95,7 +99,7 @@ numbers-good-spec =
     mul-number
     shared-slice-read-number
     slot-requires
-    array-read-before
+    array-read-number-fits
     number-fits-requires
     array-write-held
     add-j
