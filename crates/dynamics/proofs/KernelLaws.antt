@@ -20,12 +20,10 @@ use Rattle.model.specs.Flat.{Tables}
 use Rattle.dynamics.specs.Frames.{jointFrame}
 use Rattle.dynamics.specs.Run.{Run, jointCount, Moves, frameOf, Fit}
 use Rattle.dynamics.specs.Figures.{startOf, kernelOf, figure, figureOf, rootOf}
-use Rattle.spatial.specs.Past.{noVector, noWrench}
+use Rattle.spatial.specs.Past.{noWrench}
 use Rattle.dynamics.specs.Flat.{poseIn, runOf}
 use Rattle.dynamics.specs.Output.{placed, putOf, Done}
-
-abbrev pub noFrame : Frame
-noFrame = record { rotation = record { w = nan; i = nan; j = nan; k = nan }; translation = noVector }
+use Rattle.dynamics.specs.Work.{noFrame}
 
 -- ---- a joint at hand, known to be the run's
 
@@ -85,6 +83,20 @@ module _ {S : Type 0} (t : Run) (root : S) (step : ℕ → S → S) (own : ℕ �
         framed = fill-next (frameOf t) noFrame frames j f (omega arith) (o .framed) ef;
         valued = values-next (outOf (kernelOf t root step own)) (jointCount t) (fit .tree) z values j v h (omega arith) (o .valued) ev;
       }
+
+  -- a turn, with the lists that it leaves
+  pub outer-turn :
+      (m : ℕ) (fit : Fit t m) (frames frames′ : List Frame) (values values′ : List S) (j : ℕ) (f : Frame) (v : S)
+      → j < jointCount t
+      → length frames ≡ 63
+      → length values ≡ 64
+      → frames′ ≡ set frames j f
+      → values′ ≡ set values (j + 1) v
+      → f ≡ frameOf t j
+      → v ≡ step j (getD values (t .joint j .parent) z)
+      → Outer frames values j
+      → Outer frames′ values′ (j + 1)
+  outer-turn m fit frames frames′ values values′ j f v h n n′ es es′ ef ev o = rw (es, es′) (outer-next m fit frames values j f v h n n′ ef ev o)
 
 -- ---- inward
 
@@ -164,7 +176,7 @@ module _ (t : Run) (m : ℕ) (fit : Fit t m) (frames : List Frame) (own : ℕ �
 
   -- a turn, with the joint at hand known to be the run's
   pub inner-next :
-      (k j : ℕ) (joint : Joint) (sums : List Wrench) (out out′ : List Float) (w v : Wrench)
+      (k j : ℕ) (joint : Joint) (sums sums′ : List Wrench) (out out′ : List Float) (w v : Wrench)
       → length out ≡ m
       → k ≡ suc j
       → j < jointCount t
@@ -173,10 +185,11 @@ module _ (t : Run) (m : ℕ) (fit : Fit t m) (frames : List Frame) (own : ℕ �
       → w ≡ wrenchSum (getD sums k noWrench) (own k)
       → out′ ≡ putOf joint w out
       → v ≡ wrenchSum (getD sums (joint .parent) noWrench) (wrenchToParent (getD frames j noFrame) w)
+      → sums′ ≡ set sums (joint .parent) v
       → Turned k sums out
-      → Turned j (set sums (joint .parent) v) out′
-  inner-next k j joint sums out out′ w v n at h n′ ej ew eo ev i =
-      rw (eo, ej)
+      → Turned j sums′ out′
+  inner-next k j joint sums sums′ out out′ w v n at h n′ ej ew eo ev es i =
+      rw (es, eo, ej)
       (inner-turn k j sums out w v n at h n′ ew
       (ev ∙ ap (λ (x : Joint). wrenchSum (getD sums (x .parent) noWrench) (wrenchToParent (getD frames j noFrame) w)) ej)
       i)

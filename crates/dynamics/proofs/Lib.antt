@@ -1,4 +1,6 @@
 pub mod SixLaws
+pub mod WorkLaws
+pub mod StepLaws
 pub mod KernelLaws
 pub mod Worked
 pub mod RunLocal

@@ -1,7 +1,6 @@
 -- 01, The float steps: "Joint transform: revolute rotation = origin times (c, s x, s y, s z), origin translation; prismatic
 -- translation = origin + origin rotation on (distance times axis); fixed: origin."
 use lib.Ieee.{Float}
-use Rattle.spatial.specs.Constants.{plusZero, zeroVector}
 use Rattle.spatial.specs.Float.{_⊗_}
 use Rattle.spatial.specs.Vectors.{vectorSum, scaled}
 use Rattle.spatial.specs.Rotations.{multiplied, rotated}
@@ -26,7 +25,3 @@ jointFrame Revolute origin axis (Slide x) = origin
 jointFrame Prismatic origin axis (Half s c) = origin
 jointFrame Prismatic origin axis (Slide x) =
     record { rotation = origin .rotation; translation = vectorSum (origin .translation) (rotated (origin .rotation) (scaled axis x)) }
-
--- what fills an array of frames at first
-unfoldable pub zeroFrame : Frame
-zeroFrame = record { rotation = record { w = plusZero; i = plusZero; j = plusZero; k = plusZero }; translation = zeroVector }

@@ -4,5 +4,6 @@ pub mod Weights
 pub mod Run
 pub mod Figures
 pub mod Flat
+pub mod Work
 pub mod Output
 pub mod Same

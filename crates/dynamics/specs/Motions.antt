@@ -1,7 +1,7 @@
 -- 01, The float steps: outward, and a link's own wrench.
 use lib.Ieee.{Float}
 use Rattle.spatial.specs.Float.{_⊗_}
-use Rattle.spatial.specs.Constants.{two, zeroVector}
+use Rattle.spatial.specs.Constants.{two}
 use Rattle.spatial.specs.Vectors.{vectorSum, scaled, crossed}
 use Rattle.spatial.specs.Rotations.{inverted, rotated, matrixOf, transformed}
 use Rattle.spatial.specs.declared.Vector3.{Vector3}
@@ -75,7 +75,3 @@ inertialWrench l m =
       torque = vectorSum (vectorSum (crossed (l .center) f) (transformed (l .inertia) (m .alpha))) (crossed (m .omega) (transformed (l .inertia) (m .omega)));
       force = f;
     }
-
--- what fills an array of motions at first
-unfoldable pub zeroMotion : Motion
-zeroMotion = record { omega = zeroVector; alpha = zeroVector; acceleration = zeroVector }

@@ -1,7 +1,9 @@
 // Floating output: the joint kernel gets the part after the first six places, which take the root's wrench in world axes.
 ghost use mathlib.Core.List.{[]};
+ghost use mathlib.Core.Path.{_≡_};
 ghost use Prim.Native.Nat.{_-_, _≤_};
 ghost use lib.ListN.{length};
+ghost use Rattle.spatial.specs.Tables.{wrenchesIn};
 ghost use Rattle.model.specs.Flat.{lent};
 ghost use Rattle.dynamics.specs.Figures.{inverseOf, gravityOf};
 ghost use Rattle.dynamics.specs.Flat.{runOf, Ready};
@@ -12,7 +14,6 @@ use crate::gravity::gravity_kernel;
 use crate::inverse::inverse_dynamics_kernel;
 use spatial::Quaternion;
 use spatial::Vector3;
-use spatial::Wrench;
 
 pub fn floating_inverse_dynamics<'a>(
     links: &'a [f64],
@@ -26,11 +27,13 @@ pub fn floating_inverse_dynamics<'a>(
     poses: &'a [f64],
     speeds: &'a [f64],
     accelerations: &'a [f64],
-    loads: [Wrench; 64],
+    frames: &mut [f64],
+    motions: &mut [f64],
+    sums: &mut [f64],
     output: &mut [f64],
 )
-    requires { ⌜ (let t = lent (now links) (now joints) (now kinds) (now parents) (now numbers) in (6 ≤ length (now output)) × Ready t (runOf t count (now poses) (now speeds) (now accelerations) loads) (length (now poses)) (length (now output) - 6) × (length (now output) - 6 ≤ length (now speeds)) × (length (now output) - 6 ≤ length (now accelerations))) ⌝ }
-    ensures { λ _. ⌜ (let t = runOf (lent (now (links .entry)) (now (joints .entry)) (now (kinds .entry)) (now (parents .entry)) (now (numbers .entry))) count (now (poses .entry)) (now (speeds .entry)) (now (accelerations .entry)) loads in Floating t (inverseOf t root) base (now (output .exit))) ⌝ }
+    requires { ⌜ (let t = lent (now links) (now joints) (now kinds) (now parents) (now numbers) in (6 ≤ length (now output)) × Ready t (runOf t count (now poses) (now speeds) (now accelerations) (wrenchesIn (now sums))) (length (now poses)) (length (now output) - 6) × (length (now output) - 6 ≤ length (now speeds)) × (length (now output) - 6 ≤ length (now accelerations)) × (length (now frames) ≡ 441) × (length (now motions) ≡ 576) × (length (now sums) ≡ 384)) ⌝ }
+    ensures { λ _. ⌜ (let t = runOf (lent (now (links .entry)) (now (joints .entry)) (now (kinds .entry)) (now (parents .entry)) (now (numbers .entry))) count (now (poses .entry)) (now (speeds .entry)) (now (accelerations .entry)) (wrenchesIn (now (sums .entry))) in Floating t (inverseOf t root) base (now (output .exit))) ⌝ }
 {
     let wrench = inverse_dynamics_kernel(
         links,
@@ -43,7 +46,9 @@ pub fn floating_inverse_dynamics<'a>(
         poses,
         speeds,
         accelerations,
-        loads,
+        frames,
+        motions,
+        sums,
         &mut output[6..],
     );
     put_root(base, wrench, output);
@@ -59,11 +64,13 @@ pub fn floating_gravity<'a>(
     base: Quaternion,
     root: Vector3,
     poses: &'a [f64],
-    loads: [Wrench; 64],
+    frames: &mut [f64],
+    gravities: &mut [f64],
+    sums: &mut [f64],
     output: &mut [f64],
 )
-    requires { ⌜ (let t = lent (now links) (now joints) (now kinds) (now parents) (now numbers) in (6 ≤ length (now output)) × Ready t (runOf t count (now poses) [] [] loads) (length (now poses)) (length (now output) - 6)) ⌝ }
-    ensures { λ _. ⌜ (let t = runOf (lent (now (links .entry)) (now (joints .entry)) (now (kinds .entry)) (now (parents .entry)) (now (numbers .entry))) count (now (poses .entry)) [] [] loads in Floating t (gravityOf t root) base (now (output .exit))) ⌝ }
+    requires { ⌜ (let t = lent (now links) (now joints) (now kinds) (now parents) (now numbers) in (6 ≤ length (now output)) × Ready t (runOf t count (now poses) [] [] (wrenchesIn (now sums))) (length (now poses)) (length (now output) - 6) × (length (now frames) ≡ 441) × (length (now gravities) ≡ 192) × (length (now sums) ≡ 384)) ⌝ }
+    ensures { λ _. ⌜ (let t = runOf (lent (now (links .entry)) (now (joints .entry)) (now (kinds .entry)) (now (parents .entry)) (now (numbers .entry))) count (now (poses .entry)) [] [] (wrenchesIn (now (sums .entry))) in Floating t (gravityOf t root) base (now (output .exit))) ⌝ }
 {
     let wrench = gravity_kernel(
         links,
@@ -74,7 +81,9 @@ pub fn floating_gravity<'a>(
         count,
         root,
         poses,
-        loads,
+        frames,
+        gravities,
+        sums,
         &mut output[6..],
     );
     put_root(base, wrench, output);

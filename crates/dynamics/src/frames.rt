@@ -4,7 +4,7 @@ ghost use mathlib.Core.Bool.{true};
 ghost use Prim.Native.Nat.{_+_, _*_, _<_};
 ghost use lib.ListN.{length};
 ghost use Rattle.model.specs.View.{moves};
-ghost use Rattle.dynamics.specs.Frames.{halfTurn, jointFrame, zeroFrame};
+ghost use Rattle.dynamics.specs.Frames.{halfTurn, jointFrame};
 ghost use Rattle.dynamics.specs.Flat.{poseIn};
 use model::Joint;
 use model::JointType;
@@ -12,7 +12,6 @@ use model::Pose;
 use spatial::Frame;
 use spatial::Quaternion;
 use spatial::Vector3;
-use spatial::constants::zero_vector;
 use spatial::rotations::product;
 use spatial::rotations::rotate;
 use spatial::vectors::add;
@@ -128,21 +127,5 @@ pub(crate) fn parts_in(joint: Joint, poses: &[f64]) -> Frame
     Frame {
         rotation,
         translation,
-    }
-}
-
-// What fills an array of frames at first.
-pub(crate) fn zero_frame() -> Frame
-    ensures { λ r. ⌜ r ≡ zeroFrame ⌝ }
-{
-    let rotation = Quaternion {
-        w: 0.0,
-        i: 0.0,
-        j: 0.0,
-        k: 0.0,
-    };
-    Frame {
-        rotation,
-        translation: zero_vector(),
     }
 }

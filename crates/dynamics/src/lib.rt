@@ -6,6 +6,7 @@ pub mod gravity;
 pub mod inverse;
 pub mod motions;
 pub mod weights;
+pub mod work;
 
 use spatial::Vector3;
 

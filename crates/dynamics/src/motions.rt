@@ -5,7 +5,7 @@ ghost use Prim.Native.Nat.{_<_};
 ghost use lib.ListN.{length};
 ghost use Rattle.model.specs.Flat.{linkAt};
 ghost use Rattle.model.specs.View.{moves};
-ghost use Rattle.dynamics.specs.Motions.{rootMotion, accelerationAt, carried, turning, sliding, driven, moved, inertialWrench, zeroMotion};
+ghost use Rattle.dynamics.specs.Motions.{rootMotion, accelerationAt, carried, turning, sliding, driven, moved, inertialWrench};
 ghost use Rattle.dynamics.specs.Flat.{valueIn};
 use crate::Motion;
 use model::Joint;
@@ -17,7 +17,6 @@ use spatial::Quaternion;
 use spatial::Twist;
 use spatial::Vector3;
 use spatial::Wrench;
-use spatial::constants::zero_vector;
 use spatial::rotations::inverse;
 use spatial::rotations::rotate;
 use spatial::rotations::to_rotation_matrix;
@@ -185,16 +184,4 @@ pub(crate) fn root_wrench_at(links: &[f64], m: Motion) -> Wrench
 {
     let link = link_at(links, 0);
     root_wrench(link, m)
-}
-
-// What fills an array of motions at first.
-pub(crate) fn zero_motion() -> Motion
-    ensures { λ r. ⌜ r ≡ zeroMotion ⌝ }
-{
-    let zero = zero_vector();
-    Motion {
-        omega: zero,
-        alpha: zero,
-        acceleration: zero,
-    }
 }

@@ -9,11 +9,11 @@ use lib.Seq.{getD-take, getD-drop}
 use lib.Ieee.{Float, nan, binary64, toBits}
 use borrow.Author.Tests.{eq-eqb}
 use Rattle.spatial.specs.Constants.{plusZero}
+use Rattle.spatial.specs.Tables.{wrenchAt}
 use Rattle.model.specs.Bases.{baseNumbers}
 use Rattle.model.specs.declared.BaseState.{BaseState}
 use Rattle.model.specs.declared.Pose.{Pose}
 use Rattle.model.specs.declared.Pose.the-variants.{Half, Slide}
-use Rattle.loads.specs.Sums.{wrenchAt}
 use Rattle.wire.specs.Big.{be16, be64, f64At, bytes16, bytes64, floatBytes}
 use Rattle.wire.proofs.StandsLaws.{Stands, Doubles, stands-left, stands-right, stands-head, be16-stands, be64-stands, floats-stand, float-stands}
 use Rattle.records.specs.Layout.{poseLaid}

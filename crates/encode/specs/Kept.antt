@@ -5,11 +5,12 @@ use lib.ListN.{length, getD, replicate}
 use lib.Ieee.{Float, nan}
 use Rattle.spatial.specs.Constants.{plusZero}
 use Rattle.spatial.specs.Listed.{listOf}
+use Rattle.spatial.specs.Tables.{wrenchAt}
 use Rattle.model.specs.Poses.{noPose}
 use Rattle.model.specs.declared.Model.{Model}
 use Rattle.model.specs.declared.Pose.{Pose}
 use Rattle.model.specs.declared.Pose.the-variants.{Slide}
-use Rattle.loads.specs.Sums.{startSums, preparedSums, wrenchAt}
+use Rattle.loads.specs.Sums.{startSums, preparedSums}
 use Rattle.loads.specs.declared.Load.{Load}
 use Rattle.outcome.specs.Call.{Call, callOf}
 use Rattle.outcome.specs.declared.Function.{Function}

@@ -1,5 +1,5 @@
 -- One load more, by what its checks find; and a table's loads one by one.
-use Prim.Native.Nat.{ℕ, zero, suc, _+_, _<_}
+use Prim.Native.Nat.{ℕ, zero, suc, _+_, _<_, _≤_}
 use mathlib.Core.Path.{_≡_, refl, sym, _∙_, ap}
 use mathlib.Core.List.{List, [], _∷_, _++_}
 use mathlib.Core.Logic.{⊎-elim}
@@ -7,9 +7,12 @@ use native.Mathlib.Omega.{arith}
 use native.Mathlib.Numerals.{add-one}
 use lib.Ieee.{Float}
 use lib.Dec.{leb}
-use lib.ListN.{length, set, take, length-append}
-use lib.Seq.{take-length}
+use lib.ListN.{length, getD, set, take, replicate, length-append}
+use lib.Seq.{take-all, take-length, take-suc, take-suc-set}
 use Rattle.spatial.proofs.BoolLaws.{by-bool, upto}
+use Rattle.spatial.specs.declared.Wrench.{Wrench}
+use Rattle.spatial.specs.Constants.{zeroWrench}
+use Rattle.spatial.specs.Past.{noWrench}
 use Rattle.loads.specs.declared.Load.{Load}
 use Rattle.loads.specs.declared.LoadSums.{LoadSums}
 use Rattle.loads.specs.declared.LinkId.the-variants.{Known, Unknown}
@@ -19,6 +22,10 @@ use Rattle.loads.specs.declared.Length.the-variants.{Right, Wrong}
 use Rattle.loads.specs.declared.Amount.the-variants.{Few, Many}
 use Rattle.loads.specs.Checks.{linkId, finiteness, tableLength, amount}
 use Rattle.loads.specs.Sums.{startSums, sumAt, sumStep, sumFrom, loadSums, preparedSums, walkStart, walkCount, loadAt, tableLoads, flatSums}
+
+-- a refusal number with sums, and in place of another
+abbrev pub told : ℕ → List Wrench → LoadSums
+told n sums = record { number = n; sums = sums }
 
 abbrev pub numbered : ℕ → LoadSums → LoadSums
 numbered n s = record { number = n; sums = s .sums }
@@ -59,6 +66,11 @@ pub start-number : startSums .number ≡ 0
 unfolding startSums
 start-number = refl
 
+-- sums of +0
+pub start-told : (n : ℕ) (sums : List Wrench) → sums ≡ replicate 64 zeroWrench → told n sums ≡ numbered n startSums
+unfolding startSums
+start-told n sums e = ap (told n) e
+
 pub sum-append : (id links : ℕ) (s : LoadSums) (ls : List Load) (l : Load) → sumFrom id links s (ls ++ (l ∷ [])) ≡ sumStep id links (sumFrom id links s ls) l
 unfolding sumFrom
 sum-append id links s [] l = refl
@@ -72,6 +84,10 @@ module _ (id count : ℕ) (ids links : List ℕ) (ws : List Float) where
   pub swept-none : swept 0 ≡ startSums
   unfolding tableLoads sumFrom
   swept-none = refl
+
+  pub swept-zero : (sums : List Wrench) → sums ≡ replicate 64 zeroWrench → told 0 sums ≡ swept 0
+  unfolding tableLoads sumFrom startSums
+  swept-zero sums e = ap (told 0) e
 
   swept-suc : (n : ℕ) → swept (suc n) ≡ sumStep id count (swept n) (loadAt ids links ws n)
   unfolding tableLoads
@@ -120,3 +136,11 @@ pub walk-prepares : (id links : ℕ) (ls : List Load) → sumFrom id links (walk
 unfolding preparedSums loadSums sumFrom amount
 walk-prepares id links ls =
     ⊎-elim (λ h. rw h (ap (sumFrom id links startSums) (take-length ls))) (λ h. rw h) (by-bool (leb (length ls) 256))
+
+-- ---- a list that is stored from the front
+
+pub taken-more : (n : ℕ) (xs ys zs : List Wrench) → n < length xs → n < length ys → take n ys ≡ take n xs → zs ≡ set ys n (getD xs n noWrench) → take (n + 1) zs ≡ take (n + 1) xs
+taken-more n xs ys zs p q h e = rw (add-one, e) (take-suc-set ys n (getD xs n noWrench) q ∙ ap (λ (t : List Wrench). t ++ (getD xs n noWrench ∷ [])) h ∙ sym (take-suc xs n noWrench p))
+
+pub taken-all : (k : ℕ) (xs ys : List Wrench) → length ys ≡ k → length xs ≡ k → (n : ℕ) → k ≤ n → take n ys ≡ take n xs → ys ≡ xs
+taken-all k xs ys p q n l h = sym (take-all n ys (omega arith)) ∙ h ∙ take-all n xs (omega arith)

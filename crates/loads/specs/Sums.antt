@@ -1,12 +1,12 @@
 -- 01: "Load sums start at +0 and go in list order, link by link"; "loads in turn, each 6, 5, 7".
-use Prim.Native.Nat.{ℕ, zero, suc, _+_, _*_}
+use Prim.Native.Nat.{ℕ, zero, suc}
 use mathlib.Core.List.{List, [], _∷_, _++_}
-use lib.Ieee.{Float, nan}
+use lib.Ieee.{Float}
 use lib.ListN.{length, getD, set, replicate}
-use Rattle.spatial.specs.declared.Vector3.{Vector3}
 use Rattle.spatial.specs.declared.Wrench.{Wrench}
 use Rattle.spatial.specs.Constants.{zeroWrench}
 use Rattle.spatial.specs.Past.{noWrench}
+use Rattle.spatial.specs.Tables.{wrenchAt}
 use Rattle.spatial.specs.Wrenches.{wrenchSum}
 use Rattle.loads.specs.declared.Load.{Load}
 use Rattle.loads.specs.declared.LoadSums.{LoadSums}
@@ -61,14 +61,6 @@ walkStart n = before (amountNumber (amount n)) startSums
 
 abbrev pub walkCount : ℕ → ℕ
 walkCount n = accepted (amountNumber (amount n)) n 0
-
--- the wrench at place i of a table of six numbers each: torque, then force
-unfoldable pub wrenchAt : List Float → ℕ → Wrench
-wrenchAt ws i =
-    record {
-      torque = record { x = getD ws (6 * i) nan; y = getD ws (6 * i + 1) nan; z = getD ws (6 * i + 2) nan };
-      force = record { x = getD ws (6 * i + 3) nan; y = getD ws (6 * i + 4) nan; z = getD ws (6 * i + 5) nan };
-    }
 
 abbrev pub loadAt : List ℕ → List ℕ → List Float → ℕ → Load
 loadAt ids links ws i = record { id = getD ids i 0; link = getD links i 0; wrench = wrenchAt ws i }

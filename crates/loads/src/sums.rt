@@ -1,8 +1,9 @@
 // Load sums.
 ghost use mathlib.Core.Path.{_≡_};
-ghost use Prim.Native.Nat.{_+_, _*_, _<_, _≤_};
+ghost use Prim.Native.Nat.{_<_, _≤_};
 ghost use lib.ListN.{length, getD};
-ghost use Rattle.loads.specs.Sums.{noLoad, startSums, sumStep, preparedSums, walkStart, walkCount, wrenchAt, flatSums};
+ghost use Rattle.spatial.specs.Tables.{wrenchesIn};
+ghost use Rattle.loads.specs.Sums.{noLoad, startSums, sumStep, preparedSums, walkStart, walkCount, flatSums};
 use crate::Amount;
 use crate::Finiteness;
 use crate::Length;
@@ -13,9 +14,11 @@ use crate::checks::check_amount;
 use crate::checks::check_link;
 use crate::checks::check_table;
 use crate::checks::check_wrench;
-use spatial::Vector3;
 use spatial::Wrench;
 use spatial::constants::zero_wrench;
+use spatial::tables::put_wrench;
+use spatial::tables::wrench_at;
+use spatial::tables::zero_wrenches;
 use spatial::wrenches::add_wrench;
 
 // +0 at every link.
@@ -57,26 +60,6 @@ pub fn step(s: LoadSums, id: u64, links: usize, load: Load) -> LoadSums
     let mut next = s;
     next.sums[link] = total;
     next
-}
-
-// The wrench of load i in a table of six numbers a load.
-fn wrench_at(numbers: &[f64], i: usize) -> Wrench
-    requires { ⌜ 6 * i + 6 ≤ length (now numbers) ⌝ }
-    ensures { λ r. ⌜ r ≡ wrenchAt (now (numbers .entry)) i ⌝ }
-{
-    let k = 6 * i;
-    Wrench {
-        torque: Vector3 {
-            x: numbers[k],
-            y: numbers[k + 1],
-            z: numbers[k + 2],
-        },
-        force: Vector3 {
-            x: numbers[k + 3],
-            y: numbers[k + 4],
-            z: numbers[k + 5],
-        },
-    }
 }
 
 // A load of a lent table, copied out.
@@ -123,6 +106,65 @@ pub fn prepare_indexed_loads<'a>(
         i += 1;
     }
     s
+}
+
+// The same in a lent table of 64 sums, six numbers each; the refusal number is answered.
+pub fn sum_indexed_loads<'a>(
+    id: u64,
+    count: usize,
+    ids: &'a [u64],
+    links: &'a [usize],
+    numbers: &'a [f64],
+    sums: &mut [f64],
+) -> u8
+    requires { ⌜ length (now sums) ≡ 384 ⌝ }
+    ensures { λ r. ⌜ record { number = r; sums = wrenchesIn (now (sums .exit)) } ≡ flatSums id count (now (ids .entry)) (now (links .entry)) (now (numbers .entry)) ⌝ }
+{
+    zero_wrenches(sums);
+    let Length::Right = check_table(ids.len(), links.len(), numbers.len()) else {
+        return 3;
+    };
+    let Amount::Few = check_amount(ids.len()) else {
+        return 10;
+    };
+    let mut i = 0;
+    while i < ids.len() {
+        let link = links[i];
+        let LinkId::Known = check_link(id, count, ids[i], link) else {
+            return 6;
+        };
+        let w = wrench_at(numbers, i);
+        let Finiteness::Finite = check_wrench(w) else {
+            return 5;
+        };
+        let next = add_wrench(wrench_at(sums, link), w);
+        let Finiteness::Finite = check_wrench(next) else {
+            return 7;
+        };
+        put_wrench(sums, link, next);
+        i += 1;
+    }
+    0
+}
+
+// A table that is not filled yet: any numbers.
+pub fn no_sums() -> [f64; 384]
+    ensures { λ r. ⌜ length r ≡ 384 ⌝ }
+{
+    [0.0; 384]
+}
+
+// The sums of 64 links as a table of six numbers each.
+pub fn flat_sums(sums: [Wrench; 64]) -> [f64; 384]
+    ensures { λ r. ⌜ (length r ≡ 384) × (wrenchesIn r ≡ sums) ⌝ }
+{
+    let mut table = no_sums();
+    let mut n = 0;
+    while n < 64 {
+        put_wrench(&mut table, n, sums[n]);
+        n += 1;
+    }
+    table
 }
 
 // Nothing refused yet, or the refusal 10, for so many loads.

@@ -1,12 +1,13 @@
 -- 01, Tables and their limits: "The pair (s, c) belongs to a revolute joint and passes the unit test; the distance belongs to a
 -- prismatic one." And the order: positions 3, then entry by entry 5 before 4.
-use Prim.Native.Nat.{ℕ, zero, suc}
+use Prim.Native.Nat.{ℕ, zero, suc, _+_, _*_}
 use mathlib.Core.Bool.{Bool, true, false, cond}
 use mathlib.Core.List.{List, [], _∷_}
 use mathlib.Core.Path.{_≡_}
 use lib.Dec.{eqb}
 use lib.ListN.{getD}
 use lib.Ieee.{Float, nan}
+use Rattle.spatial.specs.Listed.{listOf}
 use Rattle.fit.specs.Finite.{allFinite}
 use Rattle.fit.specs.Unit.{unitPair}
 use Rattle.model.specs.declared.JointType.{JointType}
@@ -22,6 +23,14 @@ use Rattle.model.specs.Numbers.{Numbering, holds}
 abbrev pub poseNumbers : Pose → List Float
 poseNumbers (Half s c) = s ∷ c ∷ []
 poseNumbers (Slide x) = x ∷ []
+
+-- an entry as two tables have it: the code 0 is of a pair, any other of a distance
+unfoldable pub poseAt : List ℕ → List Float → ℕ → Pose
+poseAt shapes poses n = cond (eqb (getD shapes n 0) 0) (Half (getD poses (n * 2) nan) (getD poses (n * 2 + 1) nan)) (Slide (getD poses (n * 2) nan))
+
+-- all 63 entries
+abbrev pub posesIn : List ℕ → List Float → List Pose
+posesIn shapes poses = listOf 63 (poseAt shapes poses)
 
 -- of its joint's kind, and of unit length
 abbrev pub poseFits : JointType → Pose → Bool

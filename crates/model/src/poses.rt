@@ -1,10 +1,10 @@
 // The check of positions.
 ghost use mathlib.Core.Path.{_≡_};
-ghost use Prim.Native.Nat.{_≤_};
+ghost use Prim.Native.Nat.{_+_, _*_, _<_, _≤_};
 ghost use lib.ListN.{length};
 ghost use Rattle.fit.specs.Finite.{allFinite};
 ghost use Rattle.model.specs.Answer.{orElse};
-ghost use Rattle.model.specs.Poses.{poseNumbers, poseFits, poseChecked, positionsChecked};
+ghost use Rattle.model.specs.Poses.{poseNumbers, poseAt, posesIn, poseFits, poseChecked, positionsChecked};
 ghost use mathlib.Core.Bool.{cond};
 ghost use lib.Dec.{eqb};
 ghost use Rattle.model.specs.Marks.{numberingIn, kindIn, noCodes, Coded};
@@ -105,17 +105,30 @@ fn or_else(answer: Checked, next: Checked) -> Checked
     }
 }
 
+// Entry n of two tables: two numbers of a pair, or a distance.
+fn pose_at<'a>(shapes: &'a [u8], poses: &'a [f64], n: usize) -> Pose
+    requires { ⌜ (n < length (now shapes)) × (n * 2 + 2 ≤ length (now poses)) ⌝ }
+    ensures { λ r. ⌜ r ≡ poseAt (now (shapes .entry)) (now (poses .entry)) n ⌝ }
+{
+    let i = n * 2;
+    if shapes[n] == 0 {
+        return Pose::Half(poses[i], poses[i + 1]);
+    }
+    Pose::Slide(poses[i])
+}
+
 // A list of count entries, against the joints that hold their numbers.
 pub fn check_positions<'a>(
     kinds: &'a [u8],
     numbers: &'a [usize],
     joints: usize,
     moving: usize,
-    positions: [Pose; 63],
+    shapes: &'a [u8],
+    poses: &'a [f64],
     count: usize,
 ) -> Checked
-    requires { ⌜ (joints ≤ 63) × (moving ≤ 63) × (length (now kinds) ≡ 63) × (length (now numbers) ≡ 63) ⌝ }
-    ensures { λ r. ⌜ r ≡ positionsChecked (numberingIn (now (kinds .entry)) (now (numbers .entry)) joints moving) (kindIn (now (kinds .entry))) positions count ⌝ }
+    requires { ⌜ (joints ≤ 63) × (moving ≤ 63) × (length (now kinds) ≡ 63) × (length (now numbers) ≡ 63) × (length (now shapes) ≡ 63) × (length (now poses) ≡ 126) ⌝ }
+    ensures { λ r. ⌜ r ≡ positionsChecked (numberingIn (now (kinds .entry)) (now (numbers .entry)) joints moving) (kindIn (now (kinds .entry))) (posesIn (now (shapes .entry)) (now (poses .entry))) count ⌝ }
 {
     if count != moving {
         return Checked::WrongLength;
@@ -124,7 +137,7 @@ pub fn check_positions<'a>(
     let mut answer = Checked::Good;
     let mut n = 0;
     while n < moving {
-        let pose = positions[n];
+        let pose = pose_at(shapes, poses, n);
         answer = or_else(answer, check_pose(kind_of(codes[n]), pose));
         n += 1;
     }

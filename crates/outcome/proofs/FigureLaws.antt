@@ -38,12 +38,13 @@ use Rattle.dynamics.specs.Figures.{inverseOf, gravityOf, figureOf, rootOf}
 use Rattle.dynamics.specs.declared.Motion.{Motion}
 use Rattle.outcome.specs.declared.Function.the-variants.{InverseDynamics, Gravity, VelocityProduct}
 use Rattle.outcome.specs.Call.{Call, callOf}
-use Rattle.outcome.specs.Table.{Tabled, noAccelerations}
+use Rattle.outcome.specs.Table.{noAccelerations}
 use Rattle.spatial.specs.Listed.{listOf}
 use Rattle.outcome.specs.Figures.{loaded, still, inMode, rootFigures, figures}
 use Rattle.outcome.specs.Solved.{solvedList}
 use Rattle.outcome.proofs.PositionLaws.{pose-same}
 use Rattle.outcome.proofs.OutputLaws.{fit-good}
+use Rattle.outcome.proofs.TableLaws.{Tabled}
 
 list-same : (m : ℕ) (f g : ℕ → Float) → ((i : ℕ) → i < m → f i ≡ g i) → listOf m f ≡ listOf m g
 unfolding listOf

@@ -1,5 +1,6 @@
 pub mod AnswerLaws
 pub mod TableLaws
+pub mod PoseLaws
 pub mod OutputLaws
 pub mod PositionLaws
 pub mod PassedLaws

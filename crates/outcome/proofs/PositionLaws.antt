@@ -1,15 +1,14 @@
 -- What positions that pass their check give: each moving joint's pose is of its kind, and is the one that the table holds.
 use Prim.Native.Nat.{ℕ, zero, suc, _<_, _≤_}
-use mathlib.Core.Bool.{Bool, true, false, cond, false≢true}
+use mathlib.Core.Bool.{Bool, true, false, false≢true}
 use mathlib.Core.List.{List}
-use mathlib.Core.Logic.{_⊎_, inl, inr, ⊎-elim}
+use mathlib.Core.Logic.{_⊎_, ⊎-elim}
 use mathlib.Core.Path.{_≡_, refl, sym, ap, _∙_}
 use native.Mathlib.Nat.{eq-or-lt-of-le}
 use native.Mathlib.Omega.{arith}
 use lib.Dec.{eqb}
 use lib.ListN.{getD}
 use lib.Ieee.{Float}
-use borrow.Author.Tests.{eqb-true}
 use Rattle.fit.specs.Finite.{allFinite}
 use Rattle.model.specs.Answer.{orElse, unless}
 use Rattle.model.specs.Numbers.{Numbering, Holds, Numbered, holds}
@@ -21,8 +20,7 @@ use Rattle.model.specs.declared.Pose.{Pose}
 use Rattle.spatial.proofs.BoolLaws.{by-bool}
 use Rattle.model.proofs.NumberedLaws.{said, told}
 use Rattle.dynamics.specs.Flat.{poseIn}
-use Rattle.outcome.specs.Table.{Tabled}
-use Rattle.outcome.proofs.TableLaws.{pose-read}
+use Rattle.outcome.proofs.TableLaws.{Tabled}
 
 -- ---- both of two answers are good where the first refusal of them is none
 
@@ -73,10 +71,6 @@ kind-held t kind g n i h = kind-found t kind n i (said t n i h) (λ k l q. g .on
 -- ---- positions that pass
 
 module _ (t : Numbering) (kind : ℕ → JointType) (ps : List Pose) (count : ℕ) (good : positionsChecked t kind ps count ≡ Good) where
-  pub entries-all : count ≡ t .moving
-  unfolding positionsChecked
-  entries-all = eqb-true count (t .moving) (right (eqb count (t .moving)) (good-first (unless (eqb count (t .moving)) WrongLength) _ good))
-
   fitting : (n : ℕ) → n < t .moving → poseFits (kindOfNumber t kind (t .count) n) (getD ps n noPose) ≡ true
   unfolding positionsChecked poseChecked
   fitting n l =
@@ -94,4 +88,4 @@ module _ (t : Numbering) (kind : ℕ → JointType) (ps : List Pose) (count : �
     pub pose-same : (table : List Float) → Tabled ps (t .moving) table → (i : ℕ) → i < t .count → t .moves i ≡ true → poseIn (kind i) (t .number i) table ≡ getD ps (t .number i) noPose
     pose-same table tabled i l m =
         let h : Holds t (t .number i) i = record { inside = l; moving = m; number = refl } in
-        pose-read (kind i) ps (t .moving) (t .number i) table tabled (g .below (t .number i) i h) (fits-holder (t .number i) i h)
+        tabled (t .number i) (g .below (t .number i) i h) (kind i) (fits-holder (t .number i) i h)

@@ -1,15 +1,11 @@
 // The checks of a call, in 01's order.
 ghost use mathlib.Core.Path.{_≡_};
-ghost use Rattle.model.specs.Answer.{orElse};
-ghost use Rattle.model.specs.Bases.{baseChecked};
+ghost use lib.ListN.{length};
 ghost use Rattle.model.specs.Flat.{Sized, lent, viewOf};
-ghost use Rattle.model.specs.Good.{modelChecked};
-ghost use Rattle.model.specs.Marks.{kindIn, numberingIn};
-ghost use Rattle.model.specs.Poses.{positionsChecked};
+ghost use Rattle.model.specs.Poses.{posesIn};
 ghost use Rattle.outcome.specs.Refusal.{outputChecked, startChecked};
 use model::BaseState;
 use model::Checked;
-use model::Pose;
 use model::RootMode;
 use model::bases::check_base;
 use model::poses::check_positions;
@@ -46,11 +42,12 @@ pub(crate) fn check_start<'a>(
     count: usize,
     moving: usize,
     base: BaseState,
-    positions: [Pose; 63],
+    shapes: &'a [u8],
+    poses: &'a [f64],
     entries: usize,
 ) -> Checked
-    requires { ⌜ Sized (lent (now links) (now joints) (now kinds) (now parents) (now numbers)) ⌝ }
-    ensures { λ r. ⌜ r ≡ startChecked (viewOf (lent (now (links .entry)) (now (joints .entry)) (now (kinds .entry)) (now (parents .entry)) (now (numbers .entry))) count moving) base positions entries ⌝ }
+    requires { ⌜ Sized (lent (now links) (now joints) (now kinds) (now parents) (now numbers)) × (length (now shapes) ≡ 63) × (length (now poses) ≡ 126) ⌝ }
+    ensures { λ r. ⌜ r ≡ startChecked (viewOf (lent (now (links .entry)) (now (joints .entry)) (now (kinds .entry)) (now (parents .entry)) (now (numbers .entry))) count moving) base (posesIn (now (shapes .entry)) (now (poses .entry))) entries ⌝ }
 {
     let model = check_tables(links, joints, kinds, parents, numbers, count, moving);
     let Checked::Good = model else {
@@ -60,5 +57,5 @@ pub(crate) fn check_start<'a>(
     let Checked::Good = state else {
         return state;
     };
-    check_positions(kinds, numbers, count - 1, moving, positions, entries)
+    check_positions(kinds, numbers, count - 1, moving, shapes, poses, entries)
 }

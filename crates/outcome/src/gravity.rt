@@ -1,25 +1,26 @@
 // Gravity, fixed and floating.
 ghost use mathlib.Core.List.{[]};
 ghost use mathlib.Core.Path.{_≡_};
+ghost use lib.ListN.{length};
+ghost use Rattle.spatial.specs.Tables.{wrenchesIn};
 ghost use Rattle.model.specs.Flat.{Sized, lent};
+ghost use Rattle.model.specs.Poses.{posesIn};
 ghost use Rattle.outcome.specs.Call.{lentCall};
 ghost use Rattle.outcome.specs.Outcome.{outcome, told};
 use crate::Function;
 use crate::checks::check_output;
 use crate::checks::check_start;
-use crate::poses::pose_table;
 use crate::roots::check_figures;
 use crate::solve::solve_gravity;
 use dynamics::weights::turned;
-use loads::LoadSums;
 use model::BaseState;
 use model::Checked;
-use model::Pose;
 use model::RootMode;
 use model::number_of;
 use spatial::constants::standard_gravity;
 
-// Over lent tables, for callers who hold a model or tables of its lengths: a refusal's number with the output as found, or the figures.
+// Over lent tables, for callers who hold a model's, the positions' and those that the kernel works in: a refusal's number with the
+// output as found, or the figures.
 pub fn gravity_lent<'a>(
     mode: RootMode,
     links: &'a [f64],
@@ -30,13 +31,17 @@ pub fn gravity_lent<'a>(
     count: usize,
     moving: usize,
     base: BaseState,
-    positions: [Pose; 63],
+    shapes: &'a [u8],
+    poses: &'a [f64],
     entries: usize,
-    loads: LoadSums,
+    refused: u8,
+    frames: &mut [f64],
+    gravities: &mut [f64],
+    sums: &mut [f64],
     output: &mut [f64],
 ) -> u8
-    requires { ⌜ Sized (lent (now links) (now joints) (now kinds) (now parents) (now numbers)) ⌝ }
-    ensures { λ r. ⌜ told r (now (output .exit)) ≡ outcome (lentCall Function.Gravity mode (lent (now (links .entry)) (now (joints .entry)) (now (kinds .entry)) (now (parents .entry)) (now (numbers .entry))) count moving base positions entries [] [] loads) (now (output .entry)) ⌝ }
+    requires { ⌜ Sized (lent (now links) (now joints) (now kinds) (now parents) (now numbers)) × (length (now shapes) ≡ 63) × (length (now poses) ≡ 126) × (length (now frames) ≡ 441) × (length (now gravities) ≡ 192) × (length (now sums) ≡ 384) ⌝ }
+    ensures { λ r. ⌜ told r (now (output .exit)) ≡ outcome (lentCall Function.Gravity mode (lent (now (links .entry)) (now (joints .entry)) (now (kinds .entry)) (now (parents .entry)) (now (numbers .entry))) count moving base (posesIn (now (shapes .entry)) (now (poses .entry))) entries [] [] (record { number = refused; sums = wrenchesIn (now (sums .entry)) })) (now (output .entry)) ⌝ }
 {
     let start = check_start(
         links,
@@ -47,7 +52,8 @@ pub fn gravity_lent<'a>(
         count,
         moving,
         base,
-        positions,
+        shapes,
+        poses,
         entries,
     );
     let Checked::Good = start else {
@@ -57,13 +63,10 @@ pub fn gravity_lent<'a>(
     let Checked::Good = length else {
         return number_of(length);
     };
-    let refused = loads.number;
     if refused != 0 {
         return refused;
     }
     let root = turned(base.frame.rotation, standard_gravity());
-    let poses = pose_table(positions, entries);
-    let sums = loads.sums;
     solve_gravity(
         mode,
         links,
@@ -75,7 +78,9 @@ pub fn gravity_lent<'a>(
         moving,
         base.frame.rotation,
         root,
-        &poses,
+        poses,
+        frames,
+        gravities,
         sums,
         output,
     );

@@ -1,24 +1,25 @@
 // Inverse dynamics, fixed and floating.
 ghost use mathlib.Core.Path.{_≡_};
+ghost use lib.ListN.{length};
+ghost use Rattle.spatial.specs.Tables.{wrenchesIn};
 ghost use Rattle.model.specs.Flat.{Sized, lent};
+ghost use Rattle.model.specs.Poses.{posesIn};
 ghost use Rattle.outcome.specs.Call.{lentCall};
 ghost use Rattle.outcome.specs.Outcome.{outcome, told};
 use crate::Function;
 use crate::checks::check_output;
 use crate::checks::check_start;
-use crate::poses::pose_table;
 use crate::roots::check_figures;
 use crate::roots::inverse_root;
 use crate::solve::solve_inverse;
-use loads::LoadSums;
 use model::BaseState;
 use model::Checked;
-use model::Pose;
 use model::RootMode;
 use model::lists::check_list;
 use model::number_of;
 
-// Over lent tables, for callers who hold a model or tables of its lengths: a refusal's number with the output as found, or the figures.
+// Over lent tables, for callers who hold a model's, the positions' and those that the kernel works in: a refusal's number with the
+// output as found, or the figures.
 pub fn inverse_dynamics_lent<'a>(
     mode: RootMode,
     links: &'a [f64],
@@ -29,15 +30,19 @@ pub fn inverse_dynamics_lent<'a>(
     count: usize,
     moving: usize,
     base: BaseState,
-    positions: [Pose; 63],
+    shapes: &'a [u8],
+    poses: &'a [f64],
     entries: usize,
     speeds: &'a [f64],
     accelerations: &'a [f64],
-    loads: LoadSums,
+    refused: u8,
+    frames: &mut [f64],
+    motions: &mut [f64],
+    sums: &mut [f64],
     output: &mut [f64],
 ) -> u8
-    requires { ⌜ Sized (lent (now links) (now joints) (now kinds) (now parents) (now numbers)) ⌝ }
-    ensures { λ r. ⌜ told r (now (output .exit)) ≡ outcome (lentCall Function.InverseDynamics mode (lent (now (links .entry)) (now (joints .entry)) (now (kinds .entry)) (now (parents .entry)) (now (numbers .entry))) count moving base positions entries (now (speeds .entry)) (now (accelerations .entry)) loads) (now (output .entry)) ⌝ }
+    requires { ⌜ Sized (lent (now links) (now joints) (now kinds) (now parents) (now numbers)) × (length (now shapes) ≡ 63) × (length (now poses) ≡ 126) × (length (now frames) ≡ 441) × (length (now motions) ≡ 576) × (length (now sums) ≡ 384) ⌝ }
+    ensures { λ r. ⌜ told r (now (output .exit)) ≡ outcome (lentCall Function.InverseDynamics mode (lent (now (links .entry)) (now (joints .entry)) (now (kinds .entry)) (now (parents .entry)) (now (numbers .entry))) count moving base (posesIn (now (shapes .entry)) (now (poses .entry))) entries (now (speeds .entry)) (now (accelerations .entry)) (record { number = refused; sums = wrenchesIn (now (sums .entry)) })) (now (output .entry)) ⌝ }
 {
     let start = check_start(
         links,
@@ -48,7 +53,8 @@ pub fn inverse_dynamics_lent<'a>(
         count,
         moving,
         base,
-        positions,
+        shapes,
+        poses,
         entries,
     );
     let Checked::Good = start else {
@@ -66,13 +72,10 @@ pub fn inverse_dynamics_lent<'a>(
     let Checked::Good = length else {
         return number_of(length);
     };
-    let refused = loads.number;
     if refused != 0 {
         return refused;
     }
     let root = inverse_root(mode, base);
-    let poses = pose_table(positions, entries);
-    let sums = loads.sums;
     solve_inverse(
         mode,
         links,
@@ -84,9 +87,11 @@ pub fn inverse_dynamics_lent<'a>(
         moving,
         base.frame.rotation,
         root,
-        &poses,
+        poses,
         speeds,
         accelerations,
+        frames,
+        motions,
         sums,
         output,
     );

@@ -13,3 +13,9 @@ pub enum Function {
     Gravity,
     VelocityProduct,
 }
+
+// Positions as the kernels read them: a code an entry, 0 of a pair and 1 of a distance, and two numbers an entry.
+pub struct PoseTables {
+    pub shapes: [u8; 63],
+    pub poses: [f64; 126],
+}

@@ -1,9 +1,10 @@
 // A kernel's figures in either mode, over lent tables of a good model.
 ghost use mathlib.Core.List.{[]};
 ghost use mathlib.Core.Path.{_≡_};
-ghost use Prim.Native.Nat.{_+_, _*_, _≤_};
+ghost use Prim.Native.Nat.{_*_, _≤_};
 ghost use lib.ListN.{length};
 ghost use Rattle.loads.specs.Sums.{startSums};
+ghost use Rattle.spatial.specs.Tables.{wrenchesIn};
 ghost use Rattle.model.specs.Flat.{Sized, lent, viewOf};
 ghost use Rattle.model.specs.Good.{GoodModel};
 ghost use Rattle.dynamics.specs.Flat.{runOf};
@@ -17,11 +18,10 @@ use dynamics::floating::floating_gravity;
 use dynamics::floating::floating_inverse_dynamics;
 use dynamics::gravity::gravity_kernel;
 use dynamics::inverse::inverse_dynamics_kernel;
-use loads::sums::start;
 use model::RootMode;
 use spatial::Quaternion;
 use spatial::Vector3;
-use spatial::Wrench;
+use spatial::tables::zero_wrenches;
 
 pub(crate) fn solve_inverse<'a>(
     mode: RootMode,
@@ -37,11 +37,13 @@ pub(crate) fn solve_inverse<'a>(
     poses: &'a [f64],
     speeds: &'a [f64],
     accelerations: &'a [f64],
-    loads: [Wrench; 64],
+    frames: &mut [f64],
+    motions: &mut [f64],
+    sums: &mut [f64],
     output: &mut [f64],
 )
-    requires { ⌜ (let t = lent (now links) (now joints) (now kinds) (now parents) (now numbers) in Sized t × GoodModel (viewOf t count moving) × (moving * 2 ≤ length (now poses)) × (moving ≤ length (now speeds)) × (moving ≤ length (now accelerations)) × (length (now output) ≡ outputLength mode moving)) ⌝ }
-    ensures { λ _. ⌜ (let t = lent (now (links .entry)) (now (joints .entry)) (now (kinds .entry)) (now (parents .entry)) (now (numbers .entry)) in let run = runOf t count (now (poses .entry)) (now (speeds .entry)) (now (accelerations .entry)) loads in now (output .exit) ≡ solvedList mode base t count moving run (inverseOf run root)) ⌝ }
+    requires { ⌜ (let t = lent (now links) (now joints) (now kinds) (now parents) (now numbers) in Sized t × GoodModel (viewOf t count moving) × (moving * 2 ≤ length (now poses)) × (moving ≤ length (now speeds)) × (moving ≤ length (now accelerations)) × (length (now output) ≡ outputLength mode moving) × (length (now frames) ≡ 441) × (length (now motions) ≡ 576) × (length (now sums) ≡ 384)) ⌝ }
+    ensures { λ _. ⌜ (let t = lent (now (links .entry)) (now (joints .entry)) (now (kinds .entry)) (now (parents .entry)) (now (numbers .entry)) in let run = runOf t count (now (poses .entry)) (now (speeds .entry)) (now (accelerations .entry)) (wrenchesIn (now (sums .entry))) in now (output .exit) ≡ solvedList mode base t count moving run (inverseOf run root)) ⌝ }
 {
     match mode {
         RootMode::Fixed => {
@@ -56,7 +58,9 @@ pub(crate) fn solve_inverse<'a>(
                 poses,
                 speeds,
                 accelerations,
-                loads,
+                frames,
+                motions,
+                sums,
                 output,
             );
         }
@@ -73,7 +77,9 @@ pub(crate) fn solve_inverse<'a>(
                 poses,
                 speeds,
                 accelerations,
-                loads,
+                frames,
+                motions,
+                sums,
                 output,
             );
         }
@@ -94,14 +100,16 @@ pub(crate) fn solve_velocity<'a>(
     root: Motion,
     poses: &'a [f64],
     speeds: &'a [f64],
+    frames: &mut [f64],
+    motions: &mut [f64],
+    sums: &mut [f64],
     output: &mut [f64],
 )
-    requires { ⌜ (let t = lent (now links) (now joints) (now kinds) (now parents) (now numbers) in Sized t × GoodModel (viewOf t count moving) × (moving * 2 ≤ length (now poses)) × (moving ≤ length (now speeds)) × (length (now output) ≡ outputLength mode moving)) ⌝ }
+    requires { ⌜ (let t = lent (now links) (now joints) (now kinds) (now parents) (now numbers) in Sized t × GoodModel (viewOf t count moving) × (moving * 2 ≤ length (now poses)) × (moving ≤ length (now speeds)) × (length (now output) ≡ outputLength mode moving) × (length (now frames) ≡ 441) × (length (now motions) ≡ 576) × (length (now sums) ≡ 384)) ⌝ }
     ensures { λ _. ⌜ (let t = lent (now (links .entry)) (now (joints .entry)) (now (kinds .entry)) (now (parents .entry)) (now (numbers .entry)) in let run = runOf t count (now (poses .entry)) (now (speeds .entry)) noAccelerations (startSums .sums) in now (output .exit) ≡ solvedList mode base t count moving run (inverseOf run root)) ⌝ }
 {
     let accelerations = no_accelerations();
-    let none = start();
-    let loads = none.sums;
+    zero_wrenches(sums);
     match mode {
         RootMode::Fixed => {
             inverse_dynamics_kernel(
@@ -115,7 +123,9 @@ pub(crate) fn solve_velocity<'a>(
                 poses,
                 speeds,
                 &accelerations,
-                loads,
+                frames,
+                motions,
+                sums,
                 output,
             );
         }
@@ -132,7 +142,9 @@ pub(crate) fn solve_velocity<'a>(
                 poses,
                 speeds,
                 &accelerations,
-                loads,
+                frames,
+                motions,
+                sums,
                 output,
             );
         }
@@ -151,11 +163,13 @@ pub(crate) fn solve_gravity<'a>(
     base: Quaternion,
     root: Vector3,
     poses: &'a [f64],
-    loads: [Wrench; 64],
+    frames: &mut [f64],
+    gravities: &mut [f64],
+    sums: &mut [f64],
     output: &mut [f64],
 )
-    requires { ⌜ (let t = lent (now links) (now joints) (now kinds) (now parents) (now numbers) in Sized t × GoodModel (viewOf t count moving) × (moving * 2 ≤ length (now poses)) × (length (now output) ≡ outputLength mode moving)) ⌝ }
-    ensures { λ _. ⌜ (let t = lent (now (links .entry)) (now (joints .entry)) (now (kinds .entry)) (now (parents .entry)) (now (numbers .entry)) in let run = runOf t count (now (poses .entry)) [] [] loads in now (output .exit) ≡ solvedList mode base t count moving run (gravityOf run root)) ⌝ }
+    requires { ⌜ (let t = lent (now links) (now joints) (now kinds) (now parents) (now numbers) in Sized t × GoodModel (viewOf t count moving) × (moving * 2 ≤ length (now poses)) × (length (now output) ≡ outputLength mode moving) × (length (now frames) ≡ 441) × (length (now gravities) ≡ 192) × (length (now sums) ≡ 384)) ⌝ }
+    ensures { λ _. ⌜ (let t = lent (now (links .entry)) (now (joints .entry)) (now (kinds .entry)) (now (parents .entry)) (now (numbers .entry)) in let run = runOf t count (now (poses .entry)) [] [] (wrenchesIn (now (sums .entry))) in now (output .exit) ≡ solvedList mode base t count moving run (gravityOf run root)) ⌝ }
 {
     match mode {
         RootMode::Fixed => {
@@ -168,7 +182,9 @@ pub(crate) fn solve_gravity<'a>(
                 count,
                 root,
                 poses,
-                loads,
+                frames,
+                gravities,
+                sums,
                 output,
             );
         }
@@ -183,7 +199,9 @@ pub(crate) fn solve_gravity<'a>(
                 base,
                 root,
                 poses,
-                loads,
+                frames,
+                gravities,
+                sums,
                 output,
             );
         }

@@ -1,25 +1,26 @@
 // Velocity product, fixed and floating.
 ghost use mathlib.Core.List.{[]};
 ghost use mathlib.Core.Path.{_≡_};
+ghost use lib.ListN.{length};
 ghost use Rattle.loads.specs.Sums.{startSums};
 ghost use Rattle.model.specs.Flat.{Sized, lent};
+ghost use Rattle.model.specs.Poses.{posesIn};
 ghost use Rattle.outcome.specs.Call.{lentCall};
 ghost use Rattle.outcome.specs.Outcome.{outcome, told};
 use crate::Function;
 use crate::checks::check_output;
 use crate::checks::check_start;
-use crate::poses::pose_table;
 use crate::roots::check_figures;
 use crate::roots::velocity_root;
 use crate::solve::solve_velocity;
 use model::BaseState;
 use model::Checked;
-use model::Pose;
 use model::RootMode;
 use model::lists::check_list;
 use model::number_of;
 
-// Over lent tables, for callers who hold a model or tables of its lengths: a refusal's number with the output as found, or the figures.
+// Over lent tables, for callers who hold a model's, the positions' and those that the kernel works in: a refusal's number with the
+// output as found, or the figures.
 pub fn velocity_product_forces_lent<'a>(
     mode: RootMode,
     links: &'a [f64],
@@ -30,13 +31,17 @@ pub fn velocity_product_forces_lent<'a>(
     count: usize,
     moving: usize,
     base: BaseState,
-    positions: [Pose; 63],
+    shapes: &'a [u8],
+    poses: &'a [f64],
     entries: usize,
     speeds: &'a [f64],
+    frames: &mut [f64],
+    motions: &mut [f64],
+    sums: &mut [f64],
     output: &mut [f64],
 ) -> u8
-    requires { ⌜ Sized (lent (now links) (now joints) (now kinds) (now parents) (now numbers)) ⌝ }
-    ensures { λ r. ⌜ told r (now (output .exit)) ≡ outcome (lentCall Function.VelocityProduct mode (lent (now (links .entry)) (now (joints .entry)) (now (kinds .entry)) (now (parents .entry)) (now (numbers .entry))) count moving base positions entries (now (speeds .entry)) [] startSums) (now (output .entry)) ⌝ }
+    requires { ⌜ Sized (lent (now links) (now joints) (now kinds) (now parents) (now numbers)) × (length (now shapes) ≡ 63) × (length (now poses) ≡ 126) × (length (now frames) ≡ 441) × (length (now motions) ≡ 576) × (length (now sums) ≡ 384) ⌝ }
+    ensures { λ r. ⌜ told r (now (output .exit)) ≡ outcome (lentCall Function.VelocityProduct mode (lent (now (links .entry)) (now (joints .entry)) (now (kinds .entry)) (now (parents .entry)) (now (numbers .entry))) count moving base (posesIn (now (shapes .entry)) (now (poses .entry))) entries (now (speeds .entry)) [] startSums) (now (output .entry)) ⌝ }
 {
     let begun = check_start(
         links,
@@ -47,7 +52,8 @@ pub fn velocity_product_forces_lent<'a>(
         count,
         moving,
         base,
-        positions,
+        shapes,
+        poses,
         entries,
     );
     let Checked::Good = begun else {
@@ -62,7 +68,6 @@ pub fn velocity_product_forces_lent<'a>(
         return number_of(length);
     };
     let root = velocity_root(mode, base);
-    let poses = pose_table(positions, entries);
     solve_velocity(
         mode,
         links,
@@ -74,8 +79,11 @@ pub fn velocity_product_forces_lent<'a>(
         moving,
         base.frame.rotation,
         root,
-        &poses,
+        poses,
         speeds,
+        frames,
+        motions,
+        sums,
         output,
     );
     check_figures(output)

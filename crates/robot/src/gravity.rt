@@ -4,8 +4,11 @@ ghost use mathlib.Core.Path.{_≡_};
 ghost use Rattle.loads.specs.Sums.{flatSums, preparedSums};
 ghost use Rattle.outcome.specs.Call.{callOf};
 ghost use Rattle.outcome.specs.Outcome.{outcome, told};
+use dynamics::work::no_frames;
+use dynamics::work::no_gravities;
 use loads::Load;
 use loads::LoadSums;
+use loads::sums::flat_sums;
 use loads::sums::prepare_indexed_loads;
 use loads::sums::sum_loads;
 use model::BaseState;
@@ -14,6 +17,7 @@ use model::Pose;
 use model::RootMode;
 use outcome::Function;
 use outcome::gravity::gravity_lent;
+use outcome::poses::pose_tables;
 
 // Over load sums already worked out.
 pub fn gravity_core(
@@ -29,6 +33,12 @@ pub fn gravity_core(
 {
     let count = model.count;
     let moving = model.moving;
+    let tables = pose_tables(positions);
+    let refused = loads.number;
+    let wrenches = loads.sums;
+    let mut sums = flat_sums(wrenches);
+    let mut frames = no_frames();
+    let mut gravities = no_gravities();
     gravity_lent(
         mode,
         &model.links,
@@ -39,9 +49,13 @@ pub fn gravity_core(
         count,
         moving,
         base,
-        positions,
+        &tables.shapes,
+        &tables.poses,
         entries,
-        loads,
+        refused,
+        &mut frames,
+        &mut gravities,
+        &mut sums,
         output,
     )
 }

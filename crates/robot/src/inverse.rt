@@ -3,8 +3,11 @@ ghost use mathlib.Core.Path.{_≡_};
 ghost use Rattle.loads.specs.Sums.{flatSums, preparedSums};
 ghost use Rattle.outcome.specs.Call.{callOf};
 ghost use Rattle.outcome.specs.Outcome.{outcome, told};
+use dynamics::work::no_frames;
+use dynamics::work::no_motions;
 use loads::Load;
 use loads::LoadSums;
+use loads::sums::flat_sums;
 use loads::sums::prepare_indexed_loads;
 use loads::sums::sum_loads;
 use model::BaseState;
@@ -13,6 +16,7 @@ use model::Pose;
 use model::RootMode;
 use outcome::Function;
 use outcome::inverse::inverse_dynamics_lent;
+use outcome::poses::pose_tables;
 
 // Over load sums already worked out.
 pub fn inverse_dynamics_core<'a>(
@@ -30,6 +34,12 @@ pub fn inverse_dynamics_core<'a>(
 {
     let count = model.count;
     let moving = model.moving;
+    let tables = pose_tables(positions);
+    let refused = loads.number;
+    let wrenches = loads.sums;
+    let mut sums = flat_sums(wrenches);
+    let mut frames = no_frames();
+    let mut motions = no_motions();
     inverse_dynamics_lent(
         mode,
         &model.links,
@@ -40,11 +50,15 @@ pub fn inverse_dynamics_core<'a>(
         count,
         moving,
         base,
-        positions,
+        &tables.shapes,
+        &tables.poses,
         entries,
         speeds,
         accelerations,
-        loads,
+        refused,
+        &mut frames,
+        &mut motions,
+        &mut sums,
         output,
     )
 }

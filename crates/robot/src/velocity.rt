@@ -4,11 +4,15 @@ ghost use mathlib.Core.Path.{_≡_};
 ghost use Rattle.loads.specs.Sums.{startSums};
 ghost use Rattle.outcome.specs.Call.{callOf};
 ghost use Rattle.outcome.specs.Outcome.{outcome, told};
+use dynamics::work::no_frames;
+use dynamics::work::no_motions;
+use loads::sums::no_sums;
 use model::BaseState;
 use model::Model;
 use model::Pose;
 use model::RootMode;
 use outcome::Function;
+use outcome::poses::pose_tables;
 use outcome::velocity::velocity_product_forces_lent;
 
 // No loads and no accelerations.
@@ -25,6 +29,10 @@ pub fn velocity_product_forces<'a>(
 {
     let count = model.count;
     let moving = model.moving;
+    let tables = pose_tables(positions);
+    let mut sums = no_sums();
+    let mut frames = no_frames();
+    let mut motions = no_motions();
     velocity_product_forces_lent(
         mode,
         &model.links,
@@ -35,9 +43,13 @@ pub fn velocity_product_forces<'a>(
         count,
         moving,
         base,
-        positions,
+        &tables.shapes,
+        &tables.poses,
         entries,
         speeds,
+        &mut frames,
+        &mut motions,
+        &mut sums,
         output,
     )
 }

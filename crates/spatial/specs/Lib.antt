@@ -6,3 +6,4 @@ pub mod Past
 pub mod Vectors
 pub mod Rotations
 pub mod Wrenches
+pub mod Tables

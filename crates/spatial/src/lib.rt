@@ -1,6 +1,7 @@
 // Small records of doubles, with the plain functions over them that 01 names in "The float steps".
 pub mod constants;
 pub mod rotations;
+pub mod tables;
 pub mod vectors;
 pub mod wrenches;
 

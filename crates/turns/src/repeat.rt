@@ -1,5 +1,9 @@
 // Each function called so many times over on a model's lent tables; the last turn's number, 0 after none.
-use loads::sums::prepare_indexed_loads;
+use dynamics::work::no_frames;
+use dynamics::work::no_gravities;
+use dynamics::work::no_motions;
+use loads::sums::no_sums;
+use loads::sums::sum_indexed_loads;
 use model::BaseState;
 use model::Model;
 use model::Pose;
@@ -8,6 +12,7 @@ use model::number_of;
 use model::tables::check_tables;
 use outcome::gravity::gravity_lent;
 use outcome::inverse::inverse_dynamics_lent;
+use outcome::poses::pose_tables;
 use outcome::velocity::velocity_product_forces_lent;
 
 pub(crate) fn repeat_inverse<'a>(
@@ -26,10 +31,14 @@ pub(crate) fn repeat_inverse<'a>(
 ) -> u8 {
     let count = model.count;
     let moving = model.moving;
+    let tables = pose_tables(positions);
+    let mut frames = no_frames();
+    let mut motions = no_motions();
+    let mut sums = no_sums();
     let mut number = 0;
     let mut turn = 0;
     while turn < turns {
-        let sums = prepare_indexed_loads(0, count, ids, bearers, wrenches);
+        let refused = sum_indexed_loads(0, count, ids, bearers, wrenches, &mut sums);
         number = inverse_dynamics_lent(
             mode,
             &model.links,
@@ -40,11 +49,15 @@ pub(crate) fn repeat_inverse<'a>(
             count,
             moving,
             base,
-            positions,
+            &tables.shapes,
+            &tables.poses,
             entries,
             speeds,
             accelerations,
-            sums,
+            refused,
+            &mut frames,
+            &mut motions,
+            &mut sums,
             output,
         );
         turn += 1;
@@ -66,10 +79,14 @@ pub(crate) fn repeat_gravity<'a>(
 ) -> u8 {
     let count = model.count;
     let moving = model.moving;
+    let tables = pose_tables(positions);
+    let mut frames = no_frames();
+    let mut gravities = no_gravities();
+    let mut sums = no_sums();
     let mut number = 0;
     let mut turn = 0;
     while turn < turns {
-        let sums = prepare_indexed_loads(0, count, ids, bearers, wrenches);
+        let refused = sum_indexed_loads(0, count, ids, bearers, wrenches, &mut sums);
         number = gravity_lent(
             mode,
             &model.links,
@@ -80,9 +97,13 @@ pub(crate) fn repeat_gravity<'a>(
             count,
             moving,
             base,
-            positions,
+            &tables.shapes,
+            &tables.poses,
             entries,
-            sums,
+            refused,
+            &mut frames,
+            &mut gravities,
+            &mut sums,
             output,
         );
         turn += 1;
@@ -102,6 +123,10 @@ pub(crate) fn repeat_velocity<'a>(
 ) -> u8 {
     let count = model.count;
     let moving = model.moving;
+    let tables = pose_tables(positions);
+    let mut frames = no_frames();
+    let mut motions = no_motions();
+    let mut sums = no_sums();
     let mut number = 0;
     let mut turn = 0;
     while turn < turns {
@@ -115,9 +140,13 @@ pub(crate) fn repeat_velocity<'a>(
             count,
             moving,
             base,
-            positions,
+            &tables.shapes,
+            &tables.poses,
             entries,
             speeds,
+            &mut frames,
+            &mut motions,
+            &mut sums,
             output,
         );
         turn += 1;

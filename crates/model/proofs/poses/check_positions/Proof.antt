@@ -1,22 +1,23 @@
 use borrow.Author.Needs.{needs}
-use Prim.Native.Nat.{_≤_, _-_}
-use mathlib.Core.Path.{_≡_, _∙_, ap}
+use Prim.Native.Nat.{_≤_, _<_, _-_}
+use mathlib.Core.Path.{_≡_, sym, _∙_, ap}
 use native.Mathlib.Omega.{arith}
 use lib.ListN.{getD}
+use Rattle.spatial.proofs.TableLaws.{listed-at}
 use Rattle.model.specs.declared.JointType.{JointType}
 use Rattle.model.specs.Flat.{kindOf}
 use Rattle.model.specs.Marks.{numberingIn, kindIn}
-use Rattle.model.specs.Poses.{poseChecked, first, noPose}
+use Rattle.model.specs.Poses.{posesIn, poseChecked, first, noPose, poseAt}
 use Rattle.model.proofs.PoseLaws.{first-start, first-turn, wrong-length, entries-checked}
 use Rattle.model.proofs.poses.check_positions.Statement.{statement}
 use Rattle.model.proofs.poses.check_positions.Tie as tie
 
 abbrev Inv-loop : tie.InvT-loop
-Inv-loop kinds numbers joints moving count positions codes answer₀ n₀ answer n =
-    (n ≤ moving) × (answer ≡ first n (λ k. poseChecked (kindOf (getD codes k 0)) (getD positions k noPose)))
+Inv-loop kinds numbers joints moving shapes poses count codes answer₀ n₀ answer n =
+    (n ≤ moving) × (answer ≡ first n (λ k. poseChecked (kindOf (getD codes k 0)) (getD (posesIn shapes poses) k noPose)))
 
 abbrev μ-loop : tie.MeasureT-loop
-μ-loop kinds numbers joints moving count positions codes answer₀ n₀ answer n = moving - n
+μ-loop kinds numbers joints moving shapes poses count codes answer₀ n₀ answer n = moving - n
 
 returns : tie.Need-returns Inv-loop μ-loop
 returns c = wrong-length _ _ _ _ (c .if1 .taken)
@@ -27,11 +28,8 @@ codes-by-number-requires c κs = search needs
 loop-holds : tie.Need-loop-holds Inv-loop μ-loop
 loop-holds c = (omega arith, first-start _)
 
-mul-pose : tie.Need-mul-pose Inv-loop μ-loop
-mul-pose c = search needs
-
-array-copy-out-pose : tie.Need-array-copy-out-pose Inv-loop μ-loop
-array-copy-out-pose c = search needs
+pose-at-requires : tie.Need-pose-at-requires Inv-loop μ-loop
+pose-at-requires c κs = search needs
 
 array-read-kind-of : tie.Need-array-read-kind-of Inv-loop μ-loop
 array-read-kind-of c = search needs
@@ -53,15 +51,17 @@ loop-less c = search needs
 
 loop-again : tie.Need-loop-again Inv-loop μ-loop
 loop-again c =
-    let s = c .before .before .before .before .before .before .before .before .before .before in
-    let i = c .before .before .before .before .before .loop in (
+    let s = c .before .before .before .before .before .before .before .before .before .before .before .before in
+    let i = c .before .before .before .before .before .loop in
+    let pose = c .before .before .before .pose-at in
+    let below : i .n < 63 = search needs in (
       search needs,
-      first-turn _ _ _ _ _ (i .inv .1) (c .before .check-pose .ensures ∙ ap (λ (k : JointType). poseChecked k (getD (s .args .t5) (i .n) noPose)) (c .before .before .kind-of .ensures)) (c .or-else .ensures),
+      first-turn _ _ _ _ _ (i .inv .1) (c .before .check-pose .ensures ∙ ap (λ (k : JointType). poseChecked k (pose .result)) (c .before .before .kind-of .ensures) ∙ ap (poseChecked _) (pose .ensures ∙ sym (listed-at 63 (poseAt (s .args .shapes .now) (s .args .poses .now)) (i .n) noPose below))) (c .or-else .ensures),
     )
 
 returns-2 : tie.Need-returns-2 Inv-loop μ-loop
 returns-2 c =
-    let s = c .before .before .before .before .before .before in
+    let s = c .before .before .before .before .before .before .before .before in
     let i = c .before .loop in
     let codes = c .before .before .codes-by-number in
     entries-checked (numberingIn (s .args .kinds .now) (s .args .numbers .now) (s .args .joints) (s .args .moving)) (kindIn (s .args .kinds .now)) _ _ (codes .result) _ _ (c .before .before .before .if1 .left) (codes .ensures) (i .inv .0) (c .loop-test .left) (i .inv .1)
@@ -75,8 +75,7 @@ check-positions-spec =
     returns
     codes-by-number-requires
     loop-holds
-    mul-pose
-    array-copy-out-pose
+    pose-at-requires
     array-read-kind-of
     kind-of-requires
     check-pose-requires

@@ -1,12 +1,10 @@
 use borrow.Author.Needs.{needs}
-use mathlib.Core.Path.{_≡_, refl, sym, ap, _∙_}
+use mathlib.Core.Path.{_≡_, refl, sym, _∙_}
 use native.Mathlib.Omega.{arith}
-use Rattle.model.specs.Good.{goodModel, GoodModel}
-use Rattle.outcome.specs.Refusal.{startChecked}
-use Rattle.outcome.proofs.AnswerLaws.{kept}
+use Rattle.model.specs.Good.{GoodModel}
 use Rattle.model.specs.View.{View}
 use Rattle.model.specs.Flat.{viewOf, lent}
-use Rattle.model.specs.Answer.{orElse, unless}
+use Rattle.model.specs.Answer.{unless}
 use Rattle.model.specs.declared.Checked.{Checked}
 use Rattle.model.specs.declared.Checked.the-variants.{Good, InvalidModel}
 use Rattle.model.specs.Good.{modelChecked}
@@ -23,10 +21,10 @@ is-good : (b : Bool) → unless b InvalidModel ≡ Good → b ≡ true
 is-good true e = refl
 is-good false e = cc
 
-passed : (a : tie.After-enum-told) → modelChecked (view (a .before .before .before .before .before .before .before .before)) ≡ Good
+passed : (a : tie.After-enum-told) → modelChecked (view (a .before .before .before .before .before .before .before .before .before .before)) ≡ Good
 passed a = sym (a .before .before .check-tables .ensures) ∙ a .enum-told .given .1
 
-known : (a : tie.After-enum-told) → GoodModel (view (a .before .before .before .before .before .before .before .before))
+known : (a : tie.After-enum-told) → GoodModel (view (a .before .before .before .before .before .before .before .before .before .before))
 known a = good-says _ (is-good _ (passed a))
 
 check-tables-requires : tie.Need-check-tables-requires
@@ -36,7 +34,7 @@ enum-told : tie.Need-enum-told
 enum-told c = search needs
 
 returns : tie.Need-returns
-returns c = start-model (view (c .before .before .before .before .before .before .before)) _ _ _ _ (c .before .check-tables .ensures) (c .match .keys2)
+returns c = start-model (view (c .before .before .before .before .before .before .before .before .before)) _ _ _ _ (c .before .check-tables .ensures) (c .match .keys2)
 
 check-base-requires : tie.Need-check-base-requires
 check-base-requires c κs = search needs
@@ -45,7 +43,7 @@ enum-told-2 : tie.Need-enum-told-2
 enum-told-2 c = search needs
 
 returns-2 : tie.Need-returns-2
-returns-2 c = start-base (view (c .before .before .before .before .before .before .before .before .before .before)) _ _ _ _ (passed (c .before .before)) (c .before .check-base .ensures) (c .match2 .keys2)
+returns-2 c = start-base (view (c .before .before .before .before .before .before .before .before .before .before .before .before)) _ _ _ _ (passed (c .before .before)) (c .before .check-base .ensures) (c .match2 .keys2)
 
 sub-check-positions : tie.Need-sub-check-positions
 sub-check-positions c = known (c .before .before .before) .some
@@ -53,11 +51,11 @@ sub-check-positions c = known (c .before .before .before) .some
 check-positions-requires : tie.Need-check-positions-requires
 check-positions-requires c κs =
     let k = known (c .before .before .before) in
-    let z = c .before .before .before .before .before .before .before .before .before .before .before .pre in
-    (omega (arith, k .few), few-moving _ k, z .kinds, z .numbers)
+    let p = c .before .before .before .before .before .before .before .before .before .before .before .before .before .pre in
+    (omega (arith, k .few), few-moving _ k, p .0 .kinds, p .0 .numbers, p .1, p .2)
 
 returns-3 : tie.Need-returns-3
-returns-3 c = start-positions (view (c .before .before .before .before .before .before .before .before .before .before .before .before)) _ _ _ _ (passed (c .before .before .before .before)) (sym (c .before .before .before .check-base .ensures) ∙ c .before .enum-told2 .given .1) (c .check-positions .ensures)
+returns-3 c = start-positions (view (c .before .before .before .before .before .before .before .before .before .before .before .before .before .before)) _ _ _ _ (passed (c .before .before .before .before)) (sym (c .before .before .before .check-base .ensures) ∙ c .before .enum-told2 .given .1) (c .check-positions .ensures)
 
 pub check-start-spec : {M : Type 1} → statement M
 check-start-spec =

@@ -1,6 +1,5 @@
 use borrow.Author.Needs.{needs}
 use mathlib.Core.Path.{_≡_, refl, sym, ap, _∙_}
-use lib.Ieee.{Float}
 use lib.ListN.{length}
 use mathlib.Core.List.{List, []}
 use Rattle.model.specs.Flat.{modelView}
@@ -13,13 +12,13 @@ use Rattle.outcome.proofs.OutcomeLaws.{stop-start, stop-output, stop-lo
 use native.Mathlib.Omega.{arith}
 use Rattle.model.specs.Good.{GoodModel}
 use Rattle.model.proofs.GoodLaws.{few-moving}
-use Rattle.model.specs.View.{numberingOf}
-use Rattle.outcome.proofs.PositionLaws.{entries-all}
 use Rattle.outcome.proofs.PassedLaws.{model-good, positions-good, output-length}
 use Rattle.outcome.proofs.FigureLaws.{gravity-figures}
-use Rattle.outcome.proofs.TableLaws.{tabled-end}
-use Prim.Native.Nat.{_≤_, _*_}
 use Rattle.dynamics.specs.Weights.{turned}
+use Rattle.outcome.proofs.TableLaws.{tabled}
+use Rattle.model.specs.Poses.{posesIn}
+use Rattle.model.specs.declared.Pose.{Pose}
+use Rattle.spatial.specs.Tables.{wrenchesIn}
 use Rattle.outcome.proofs.gravity.gravity_lent.Statement.{statement}
 use Rattle.outcome.proofs.gravity.gravity_lent.Tie as tie
 
@@ -37,30 +36,24 @@ model s =
       joints = s .args .joints .now;
     }
 
+abbrev positions : tie.Start → List Pose
+positions s = posesIn (s .args .shapes .now) (s .args .poses .now)
+
 abbrev call : tie.Start → Call
-call s = callOf Gravity (s .args .mode) (model s) (s .args .base) (s .args .positions) (s .args .entries) [] [] (s .args .loads)
+call s = callOf Gravity (s .args .mode) (model s) (s .args .base) (positions s) (s .args .entries) [] [] (record { number = s .args .refused; sums = wrenchesIn (s .args .sums .now) })
 
 -- what each check that passed shows
-started : (a : tie.After-enum-told) → (let s = a .before .before .before .before .before .before .before .before .before in startChecked (modelView (model s)) (s .args .base) (s .args .positions) (s .args .entries) ≡ Good)
+started : (a : tie.After-enum-told) → (let s = a .before .before .before .before .before .before .before .before .before .before .before .before .before .before in startChecked (modelView (model s)) (s .args .base) (positions s) (s .args .entries) ≡ Good)
 started a = sym (a .before .before .check-start .ensures) ∙ a .enum-told .given .1
 
-good : (a : tie.After-enum-told) → GoodModel (modelView (model (a .before .before .before .before .before .before .before .before .before)))
+good : (a : tie.After-enum-told) → GoodModel (modelView (model (a .before .before .before .before .before .before .before .before .before .before .before .before .before .before)))
 good a = model-good _ _ _ _ (started a)
 
-all : (a : tie.After-enum-told) → (let s = a .before .before .before .before .before .before .before .before .before in s .args .entries ≡ s .args .moving)
-all a = entries-all (numberingOf (modelView (model (a .before .before .before .before .before .before .before .before .before)))) _ _ _ (positions-good _ _ _ _ (started a))
-
-few : (a : tie.After-enum-told) → a .before .before .before .before .before .before .before .before .before .args .entries ≤ 63
-few a = omega (arith, all a, few-moving _ (good a))
-
-room : (a : tie.After-enum-told) (table : List Float) → length table ≡ 126 → a .before .before .before .before .before .before .before .before .before .args .moving * 2 ≤ length table
-room a table e = omega (arith, e, few-moving _ (good a))
-
-placed : (a : tie.After-enum-told2) → (let s = a .before .before .before .before .before .before .before .before .before .before .before .before in outputChecked (s .args .mode) (s .args .moving) (length (s .args .output .now)) ≡ Good)
+placed : (a : tie.After-enum-told2) → (let s = a .before .before .before .before .before .before .before .before .before .before .before .before .before .before .before .before .before in outputChecked (s .args .mode) (s .args .moving) (length (s .args .output .now)) ≡ Good)
 placed a = sym (a .before .before .check-output .ensures) ∙ a .enum-told2 .given .1
 
 check-start-requires : tie.Need-check-start-requires
-check-start-requires c κs = search needs
+check-start-requires c κs = let p = c .before .before .before .before .before .before .before .before .before .before .before .pre in (p .0, p .1, p .2)
 
 enum-told : tie.Need-enum-told
 enum-told c = search needs
@@ -69,7 +62,7 @@ number-of-requires : tie.Need-number-of-requires
 number-of-requires c κs = search needs
 
 returns : tie.Need-returns
-returns c = stop-start (call (c .before .before .before .before .before .before .before .before .before)) _ _ _ (c .number-of .ensures) (c .before .match .keys2) (c .before .before .check-start .ensures)
+returns c = stop-start (call (c .before .before .before .before .before .before .before .before .before .before .before .before .before .before)) _ _ _ (c .number-of .ensures) (c .before .match .keys2) (c .before .before .check-start .ensures)
 
 check-output-requires : tie.Need-check-output-requires
 check-output-requires c κs = search needs
@@ -81,10 +74,10 @@ number-of-requires-2 : tie.Need-number-of-requires-2
 number-of-requires-2 c κs = search needs
 
 returns-2 : tie.Need-returns-2
-returns-2 c = stop-output (call (c .before .before .before .before .before .before .before .before .before .before .before .before)) _ (started (c .before .before .before)) refl refl _ _ (c .number-of2 .ensures) (c .before .match2 .keys2) (c .before .before .check-output .ensures)
+returns-2 c = stop-output (call (c .before .before .before .before .before .before .before .before .before .before .before .before .before .before .before .before .before)) _ (started (c .before .before .before)) refl refl _ _ (c .number-of2 .ensures) (c .before .match2 .keys2) (c .before .before .check-output .ensures)
 
 returns-3 : tie.Need-returns-3
-returns-3 c = stop-loads (call (c .before .before .before .before .before .before .before .before .before .before .before .before .before)) _ (started (c .before .before .before .before)) refl refl (placed (c .before)) _ refl (c .if1 .taken)
+returns-3 c = stop-loads (call (c .before .before .before .before .before .before .before .before .before .before .before .before .before .before .before .before .before .before)) _ (started (c .before .before .before .before)) refl refl (placed (c .before)) _ refl (c .if1 .taken)
 
 standard-gravity-requires : tie.Need-standard-gravity-requires
 standard-gravity-requires c κs = search needs
@@ -92,21 +85,18 @@ standard-gravity-requires c κs = search needs
 turned-requires : tie.Need-turned-requires
 turned-requires c κs = search needs
 
-pose-table-requires : tie.Need-pose-table-requires
-pose-table-requires c κs = few (c .before .before .before .before .before .before)
-
-slice-aggregate-solve-gravity : tie.Need-slice-aggregate-solve-gravity
-slice-aggregate-solve-gravity c = search needs
-
 solve-gravity-requires : tie.Need-solve-gravity-requires
 solve-gravity-requires c κs =
-    let s = c .before .before .before .before .before .before .before .before .before .before .before .before .before .before .before .before .before .before .before in
-    let a = c .before .before .before .before .before .before .before .before .before .before in
-    let p = c .before .before .before .pose-table in (
-      s .pre,
-      good a,
-      room a (p .result) (p .ensures .0),
+    let s = c .before .before .before .before .before .before .before .before .before .before .before .before .before .before .before .before .before .before .before .before .before .before .before .before in
+    let p = s .pre in
+    let g = good (c .before .before .before .before .before .before .before .before .before .before) in (
+      p .0,
+      g,
+      omega (arith, p .2, few-moving _ g),
       output-length (s .args .mode) (s .args .moving) (length (s .args .output .now)) (placed (c .before .before .before .before .before .before .before)),
+      p .3,
+      p .4,
+      p .5,
     )
 
 check-figures-requires : tie.Need-check-figures-requires
@@ -115,15 +105,22 @@ check-figures-requires c κs = search needs
 same-length : tie.Need-same-length
 same-length c = search needs
 
+same-length-2 : tie.Need-same-length-2
+same-length-2 c = search needs
+
+same-length-3 : tie.Need-same-length-3
+same-length-3 c = search needs
+
+same-length-4 : tie.Need-same-length-4
+same-length-4 c = search needs
+
 returns-4 : tie.Need-returns-4
 returns-4 c =
-    let s = c .before .before .before .before .before .before .before .before .before .before .before .before .before .before .before .before .before .before .before .before .before .before .before .before in
-    let a = c .before .before .before .before .before .before .before .before .before .before .before .before .before .before .before in
-    let p = c .before .before .before .before .before .before .before .before .pose-table in
-    go-on (call s) (s .args .output .now) (started a) refl refl (placed (c .before .before .before .before .before .before .before .before .before .before .before .before)) (c .before .before .before .before .before .before .before .before .before .before .before .if1 .left) _ _
-    (c .before .before .before .before .solve-gravity .ensures
-    ∙ gravity-figures (model s) (good a) (s .args .positions) (s .args .entries) (positions-good _ _ _ _ (started a)) (p .result) (tabled-end _ _ _ _ (omega (arith, all a)) (p .ensures .1)) (s .args .mode) (s .args .base) (s .args .loads) _
-    (c .before .before .before .before .before .before .before .before .before .turned .ensures ∙ ap (turned (s .args .base .frame .rotation)) (c .before .before .before .before .before .before .before .before .before .before .standard-gravity .ensures)))
+    let s = c .before .before .before .before .before .before .before .before .before .before .before .before .before .before .before .before .before .before .before .before .before .before .before .before .before .before .before .before .before .before .before .before .before .before .before in
+    let a = c .before .before .before .before .before .before .before .before .before .before .before .before .before .before .before .before .before .before .before .before .before in
+    go-on (call s) (s .args .output .now) (started a) refl refl (placed (c .before .before .before .before .before .before .before .before .before .before .before .before .before .before .before .before .before .before)) (c .before .before .before .before .before .before .before .before .before .before .before .before .before .before .before .before .before .if1 .left) _ _
+    (c .before .before .before .before .before .before .before .before .before .before .solve-gravity .ensures
+    ∙ gravity-figures (model s) (good a) (positions s) (s .args .entries) (positions-good _ _ _ _ (started a)) (s .args .poses .now) (tabled (s .args .shapes .now) (s .args .poses .now) (s .args .moving) (few-moving _ (good a))) (s .args .mode) (s .args .base) (call s .loads) _ (c .before .before .before .before .before .before .before .before .before .before .before .before .before .before .before .turned .ensures ∙ ap (turned (s .args .base .frame .rotation)) (c .before .before .before .before .before .before .before .before .before .before .before .before .before .before .before .before .standard-gravity .ensures)))
     (c .check-figures .ensures)
 
 pub gravity-lent-spec : {M : Type 1} → statement M
@@ -141,9 +138,10 @@ gravity-lent-spec =
     returns-3
     standard-gravity-requires
     turned-requires
-    pose-table-requires
-    slice-aggregate-solve-gravity
     solve-gravity-requires
     check-figures-requires
     same-length
+    same-length-2
+    same-length-3
+    same-length-4
     returns-4)

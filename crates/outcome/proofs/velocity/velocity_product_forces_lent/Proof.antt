@@ -1,6 +1,5 @@
 use borrow.Author.Needs.{needs}
 use mathlib.Core.Path.{_≡_, refl, sym, _∙_}
-use lib.Ieee.{Float}
 use lib.ListN.{length}
 use mathlib.Core.List.{List, []}
 use Rattle.model.specs.Flat.{modelView}
@@ -14,13 +13,12 @@ use Rattle.outcome.proofs.OutcomeLaws.{stop-start, stop-speeds, stop-ou
 use native.Mathlib.Omega.{arith}
 use Rattle.model.specs.Good.{GoodModel}
 use Rattle.model.proofs.GoodLaws.{few-moving}
-use Rattle.model.specs.View.{numberingOf}
-use Rattle.outcome.proofs.PositionLaws.{entries-all}
 use Rattle.outcome.proofs.PassedLaws.{model-good, positions-good, list-length, output-length}
 use Rattle.outcome.proofs.FigureLaws.{velocity-figures}
-use Rattle.outcome.proofs.TableLaws.{tabled-end}
-use Prim.Native.Nat.{_≤_, _*_}
 use Rattle.loads.specs.Sums.{startSums}
+use Rattle.outcome.proofs.TableLaws.{tabled}
+use Rattle.model.specs.Poses.{posesIn}
+use Rattle.model.specs.declared.Pose.{Pose}
 use Rattle.outcome.proofs.velocity.velocity_product_forces_lent.Statement.{statement}
 use Rattle.outcome.proofs.velocity.velocity_product_forces_lent.Tie as tie
 
@@ -38,33 +36,27 @@ model s =
       joints = s .args .joints .now;
     }
 
+abbrev positions : tie.Start → List Pose
+positions s = posesIn (s .args .shapes .now) (s .args .poses .now)
+
 abbrev call : tie.Start → Call
-call s = callOf VelocityProduct (s .args .mode) (model s) (s .args .base) (s .args .positions) (s .args .entries) (s .args .speeds .now) [] startSums
+call s = callOf VelocityProduct (s .args .mode) (model s) (s .args .base) (positions s) (s .args .entries) (s .args .speeds .now) [] startSums
 
 -- what each check that passed shows
-started : (a : tie.After-enum-told) → (let s = a .before .before .before .before .before .before .before .before .before .before in startChecked (modelView (model s)) (s .args .base) (s .args .positions) (s .args .entries) ≡ Good)
+started : (a : tie.After-enum-told) → (let s = a .before .before .before .before .before .before .before .before .before .before .before .before .before .before .before in startChecked (modelView (model s)) (s .args .base) (positions s) (s .args .entries) ≡ Good)
 started a = sym (a .before .before .check-start .ensures) ∙ a .enum-told .given .1
 
-good : (a : tie.After-enum-told) → GoodModel (modelView (model (a .before .before .before .before .before .before .before .before .before .before)))
+good : (a : tie.After-enum-told) → GoodModel (modelView (model (a .before .before .before .before .before .before .before .before .before .before .before .before .before .before .before)))
 good a = model-good _ _ _ _ (started a)
 
-all : (a : tie.After-enum-told) → (let s = a .before .before .before .before .before .before .before .before .before .before in s .args .entries ≡ s .args .moving)
-all a = entries-all (numberingOf (modelView (model (a .before .before .before .before .before .before .before .before .before .before)))) _ _ _ (positions-good _ _ _ _ (started a))
-
-few : (a : tie.After-enum-told) → a .before .before .before .before .before .before .before .before .before .before .args .entries ≤ 63
-few a = omega (arith, all a, few-moving _ (good a))
-
-room : (a : tie.After-enum-told) (table : List Float) → length table ≡ 126 → a .before .before .before .before .before .before .before .before .before .before .args .moving * 2 ≤ length table
-room a table e = omega (arith, e, few-moving _ (good a))
-
-speeded : (a : tie.After-enum-told2) → (let s = a .before .before .before .before .before .before .before .before .before .before .before .before .before in listChecked (s .args .speeds .now) (s .args .moving) ≡ Good)
+speeded : (a : tie.After-enum-told2) → (let s = a .before .before .before .before .before .before .before .before .before .before .before .before .before .before .before .before .before .before in listChecked (s .args .speeds .now) (s .args .moving) ≡ Good)
 speeded a = sym (a .before .before .check-list .ensures) ∙ a .enum-told2 .given .1
 
-placed : (a : tie.After-enum-told3) → (let s = a .before .before .before .before .before .before .before .before .before .before .before .before .before .before .before .before in outputChecked (s .args .mode) (s .args .moving) (length (s .args .output .now)) ≡ Good)
+placed : (a : tie.After-enum-told3) → (let s = a .before .before .before .before .before .before .before .before .before .before .before .before .before .before .before .before .before .before .before .before .before in outputChecked (s .args .mode) (s .args .moving) (length (s .args .output .now)) ≡ Good)
 placed a = sym (a .before .before .check-output .ensures) ∙ a .enum-told3 .given .1
 
 check-start-requires : tie.Need-check-start-requires
-check-start-requires c κs = search needs
+check-start-requires c κs = let p = c .before .before .before .before .before .before .before .before .before .before .before .before .pre in (p .0, p .1, p .2)
 
 enum-told : tie.Need-enum-told
 enum-told c = search needs
@@ -73,7 +65,7 @@ number-of-requires : tie.Need-number-of-requires
 number-of-requires c κs = search needs
 
 returns : tie.Need-returns
-returns c = stop-start (call (c .before .before .before .before .before .before .before .before .before .before)) _ _ _ (c .number-of .ensures) (c .before .match .keys2) (c .before .before .check-start .ensures)
+returns c = stop-start (call (c .before .before .before .before .before .before .before .before .before .before .before .before .before .before .before)) _ _ _ (c .number-of .ensures) (c .before .match .keys2) (c .before .before .check-start .ensures)
 
 check-list-requires : tie.Need-check-list-requires
 check-list-requires c κs = search needs
@@ -85,7 +77,7 @@ number-of-requires-2 : tie.Need-number-of-requires-2
 number-of-requires-2 c κs = search needs
 
 returns-2 : tie.Need-returns-2
-returns-2 c = stop-speeds (call (c .before .before .before .before .before .before .before .before .before .before .before .before .before)) _ (started (c .before .before .before)) _ _ (c .number-of2 .ensures) (c .before .match2 .keys2) (c .before .before .check-list .ensures)
+returns-2 c = stop-speeds (call (c .before .before .before .before .before .before .before .before .before .before .before .before .before .before .before .before .before .before)) _ (started (c .before .before .before)) _ _ (c .number-of2 .ensures) (c .before .match2 .keys2) (c .before .before .check-list .ensures)
 
 check-output-requires : tie.Need-check-output-requires
 check-output-requires c κs = search needs
@@ -97,28 +89,24 @@ number-of-requires-3 : tie.Need-number-of-requires-3
 number-of-requires-3 c κs = search needs
 
 returns-3 : tie.Need-returns-3
-returns-3 c = stop-output (call (c .before .before .before .before .before .before .before .before .before .before .before .before .before .before .before .before)) _ (started (c .before .before .before .before .before .before)) (speeded (c .before .before .before)) refl _ _ (c .number-of3 .ensures) (c .before .match3 .keys2) (c .before .before .check-output .ensures)
+returns-3 c = stop-output (call (c .before .before .before .before .before .before .before .before .before .before .before .before .before .before .before .before .before .before .before .before .before)) _ (started (c .before .before .before .before .before .before)) (speeded (c .before .before .before)) refl _ _ (c .number-of3 .ensures) (c .before .match3 .keys2) (c .before .before .check-output .ensures)
 
 velocity-root-requires : tie.Need-velocity-root-requires
 velocity-root-requires c κs = search needs
 
-pose-table-requires : tie.Need-pose-table-requires
-pose-table-requires c κs = few (c .before .before .before .before .before .before .before)
-
-slice-aggregate-solve-velocity : tie.Need-slice-aggregate-solve-velocity
-slice-aggregate-solve-velocity c = search needs
-
 solve-velocity-requires : tie.Need-solve-velocity-requires
 solve-velocity-requires c κs =
-    let s = c .before .before .before .before .before .before .before .before .before .before .before .before .before .before .before .before .before .before .before .before in
-    let a = c .before .before .before .before .before .before .before .before .before .before in
-    let v = list-length _ _ (speeded (c .before .before .before .before .before .before .before)) in
-    let p = c .before .before .pose-table in (
-      s .pre,
-      good a,
-      room a (p .result) (p .ensures .0),
-      omega (arith, v),
-      output-length (s .args .mode) (s .args .moving) (length (s .args .output .now)) (placed (c .before .before .before .before)),
+    let s = c .before .before .before .before .before .before .before .before .before .before .before .before .before .before .before .before .before .before .before .before .before .before .before .before .before .before in
+    let p = s .pre in
+    let g = good (c .before .before .before .before .before .before .before .before .before .before .before) in (
+      p .0,
+      g,
+      omega (arith, p .2, few-moving _ g),
+      omega (arith, list-length _ _ (speeded (c .before .before .before .before .before .before .before .before))),
+      output-length (s .args .mode) (s .args .moving) (length (s .args .output .now)) (placed (c .before .before .before .before .before)),
+      p .3,
+      p .4,
+      p .5,
     )
 
 check-figures-requires : tie.Need-check-figures-requires
@@ -127,14 +115,22 @@ check-figures-requires c κs = search needs
 same-length : tie.Need-same-length
 same-length c = search needs
 
+same-length-2 : tie.Need-same-length-2
+same-length-2 c = search needs
+
+same-length-3 : tie.Need-same-length-3
+same-length-3 c = search needs
+
+same-length-4 : tie.Need-same-length-4
+same-length-4 c = search needs
+
 returns-4 : tie.Need-returns-4
 returns-4 c =
-    let s = c .before .before .before .before .before .before .before .before .before .before .before .before .before .before .before .before .before .before .before .before .before .before .before .before .before in
-    let a = c .before .before .before .before .before .before .before .before .before .before .before .before .before .before .before in
-    let p = c .before .before .before .before .before .before .before .pose-table in
-    go-on (call s) (s .args .output .now) (started a) (speeded (c .before .before .before .before .before .before .before .before .before .before .before .before)) refl (placed (c .before .before .before .before .before .before .before .before .before)) refl _ _
-    (c .before .before .before .before .solve-velocity .ensures
-    ∙ velocity-figures (model s) (good a) (s .args .positions) (s .args .entries) (positions-good _ _ _ _ (started a)) (p .result) (tabled-end _ _ _ _ (omega (arith, all a)) (p .ensures .1)) (s .args .mode) (s .args .base) (s .args .speeds .now) _ (c .before .before .before .before .before .before .before .before .velocity-root .ensures))
+    let s = c .before .before .before .before .before .before .before .before .before .before .before .before .before .before .before .before .before .before .before .before .before .before .before .before .before .before .before .before .before .before .before .before .before .before .before .before .before in
+    let a = c .before .before .before .before .before .before .before .before .before .before .before .before .before .before .before .before .before .before .before .before .before .before in
+    go-on (call s) (s .args .output .now) (started a) (speeded (c .before .before .before .before .before .before .before .before .before .before .before .before .before .before .before .before .before .before .before)) refl (placed (c .before .before .before .before .before .before .before .before .before .before .before .before .before .before .before .before)) refl _ _
+    (c .before .before .before .before .before .before .before .before .before .before .solve-velocity .ensures
+    ∙ velocity-figures (model s) (good a) (positions s) (s .args .entries) (positions-good _ _ _ _ (started a)) (s .args .poses .now) (tabled (s .args .shapes .now) (s .args .poses .now) (s .args .moving) (few-moving _ (good a))) (s .args .mode) (s .args .base) (s .args .speeds .now) _ (c .before .before .before .before .before .before .before .before .before .before .before .before .before .before .before .velocity-root .ensures))
     (c .check-figures .ensures)
 
 pub velocity-product-forces-lent-spec : {M : Type 1} → statement M
@@ -154,9 +150,10 @@ velocity-product-forces-lent-spec =
     number-of-requires-3
     returns-3
     velocity-root-requires
-    pose-table-requires
-    slice-aggregate-solve-velocity
     solve-velocity-requires
     check-figures-requires
     same-length
+    same-length-2
+    same-length-3
+    same-length-4
     returns-4)

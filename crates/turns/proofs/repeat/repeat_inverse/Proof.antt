@@ -1,33 +1,71 @@
 use Prim.Native.Nat.{_-_, _≤_}
-use mathlib.Core.Path.{_≡_}
+use mathlib.Core.Path.{_≡_, _∙_}
 use lib.ListN.{length}
+use native.Mathlib.Omega.{arith}
 use borrow.Author.Needs.{needs}
 use Rattle.turns.proofs.repeat.repeat_inverse.Statement.{statement}
 use Rattle.turns.proofs.repeat.repeat_inverse.Tie as tie
 
 abbrev Inv-loop : tie.InvT-loop
-Inv-loop turns mode base positions entries speeds accelerations ids bearers wrenches output₀ model count moving number₀ turn₀ output number turn = (turn ≤ turns) × (length output ≡ length output₀)
+Inv-loop turns mode base entries speeds accelerations ids bearers wrenches output₀ model count moving tables frames₀ motions₀ sums₀ number₀ turn₀ output frames motions sums number turn =
+    (turn ≤ turns) × (length output ≡ length output₀) × (length frames ≡ 441) × (length motions ≡ 576) × (length sums ≡ 384)
 
 abbrev μ-loop : tie.MeasureT-loop
-μ-loop turns mode base positions entries speeds accelerations ids bearers wrenches output₀ model count moving number₀ turn₀ output number turn = turns - turn
+μ-loop turns mode base entries speeds accelerations ids bearers wrenches output₀ model count moving tables frames₀ motions₀ sums₀ number₀ turn₀ output frames motions sums number turn = turns - turn
+
+pose-tables-requires : tie.Need-pose-tables-requires Inv-loop μ-loop
+pose-tables-requires c κs = search needs
+
+no-frames-requires : tie.Need-no-frames-requires Inv-loop μ-loop
+no-frames-requires c κs = search needs
+
+no-motions-requires : tie.Need-no-motions-requires Inv-loop μ-loop
+no-motions-requires c κs = search needs
+
+no-sums-requires : tie.Need-no-sums-requires Inv-loop μ-loop
+no-sums-requires c κs = search needs
 
 loop-holds : tie.Need-loop-holds Inv-loop μ-loop
 loop-holds c = search needs
 
-prepare-indexed-loads-requires : tie.Need-prepare-indexed-loads-requires Inv-loop μ-loop
-prepare-indexed-loads-requires c κs = search needs
+slice-aggregate-sum-indexed-loads : tie.Need-slice-aggregate-sum-indexed-loads Inv-loop μ-loop
+slice-aggregate-sum-indexed-loads c = search needs
+
+sum-indexed-loads-requires : tie.Need-sum-indexed-loads-requires Inv-loop μ-loop
+sum-indexed-loads-requires c κs = search needs
+
+slice-aggregate-inverse-dynamics-lent :
+    tie.Need-slice-aggregate-inverse-dynamics-lent Inv-loop μ-loop
+slice-aggregate-inverse-dynamics-lent c = search needs
+
+slice-aggregate-inverse-dynamics-lent-2 :
+    tie.Need-slice-aggregate-inverse-dynamics-lent-2 Inv-loop μ-loop
+slice-aggregate-inverse-dynamics-lent-2 c = search needs
+
+slice-aggregate-inverse-dynamics-lent-3 :
+    tie.Need-slice-aggregate-inverse-dynamics-lent-3 Inv-loop μ-loop
+slice-aggregate-inverse-dynamics-lent-3 c = search needs
 
 inverse-dynamics-lent-requires : tie.Need-inverse-dynamics-lent-requires Inv-loop μ-loop
 inverse-dynamics-lent-requires c κs = search needs
 
 add-turn : tie.Need-add-turn Inv-loop μ-loop
-add-turn c = search needs
+add-turn c = omega (arith, c .before .before .before .before .before .before .before .before .before .before .before .before .before .before .before .before .before .before .before .before .before .before .before .before .before .before .before .before .before .loop-test .taken, c .before .before .before .before .before .before .before .before .before .before .before .before .before .before .before .before .before .before .before .before .before .before .before .before .before .before .before .before .before .before .before .before .before .before .before .before .before .before .before .before .before .fits .turns)
 
 loop-less : tie.Need-loop-less Inv-loop μ-loop
 loop-less c = search needs
 
 loop-again : tie.Need-loop-again Inv-loop μ-loop
-loop-again c = search needs
+loop-again c =
+    let i = c .before .before .before .before .before .before .before .before .before .before .before .before .before .before .before .before .before .before .before .before .before .before .before .before .before .before .before .before .before .before .loop in
+    let summed = c .before .before .before .before .before .before .before .before .before .before .before .before .before .before .before .before .before .before .before .before .before .before .before .before .before .before .before .sum-indexed-loads in
+    let k = c .before .before .before .before .before .inverse-dynamics-lent in (
+      omega (arith, c .before .before .before .before .before .before .before .before .before .before .before .before .before .before .before .before .before .before .before .before .before .before .before .before .before .before .before .before .before .loop-test .taken),
+      k .kept .1 .1 .1 .1 .1 .1 .1 .1 .1 .1 .1 .1 .1 .1 .1 .1 .1 .1 .0 ∙ i .inv .1,
+      k .kept .1 .1 .1 .1 .1 .1 .1 .1 .1 .1 .1 .1 .1 .1 .1 .0 ∙ i .inv .2,
+      k .kept .1 .1 .1 .1 .1 .1 .1 .1 .1 .1 .1 .1 .1 .1 .1 .1 .0 ∙ i .inv .3,
+      k .kept .1 .1 .1 .1 .1 .1 .1 .1 .1 .1 .1 .1 .1 .1 .1 .1 .1 .0 ∙ summed .kept .1 .1 .1 .1 .1 .0 ∙ i .inv .4,
+    )
 
 same-length : tie.Need-same-length Inv-loop μ-loop
 same-length c = search needs
@@ -41,8 +79,16 @@ repeat-inverse-spec =
     (tie.spec
     Inv-loop
     μ-loop
+    pose-tables-requires
+    no-frames-requires
+    no-motions-requires
+    no-sums-requires
     loop-holds
-    prepare-indexed-loads-requires
+    slice-aggregate-sum-indexed-loads
+    sum-indexed-loads-requires
+    slice-aggregate-inverse-dynamics-lent
+    slice-aggregate-inverse-dynamics-lent-2
+    slice-aggregate-inverse-dynamics-lent-3
     inverse-dynamics-lent-requires
     add-turn
     loop-less

@@ -1,8 +1,8 @@
 use mathlib.Core.Path.{refl}
-use Rattle.loads.specs.Sums.{wrenchAt}
+use Rattle.spatial.specs.Tables.{wrenchAt}
 use borrow.Author.Needs.{needs}
-use Rattle.loads.proofs.sums.wrench_at.Statement.{statement}
-use Rattle.loads.proofs.sums.wrench_at.Tie as tie
+use Rattle.spatial.proofs.tables.wrench_at.Statement.{statement}
+use Rattle.spatial.proofs.tables.wrench_at.Tie as tie
 
 mul-k : tie.Need-mul-k
 mul-k c = search needs
