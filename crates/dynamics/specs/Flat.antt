@@ -1,17 +1,17 @@
 -- A call over lent tables: two numbers a pose, one a speed or an acceleration, each by the joint's number.
-use Prim.Native.Nat.{ℕ, _+_, _*_, _≤_}
+use Prim.Native.Nat.{ℕ, _+_, _*_}
 use mathlib.Core.List.{List}
 use lib.ListN.{getD}
 use lib.Ieee.{Float, nan}
 use Rattle.spatial.specs.Constants.{plusZero}
 use Rattle.spatial.specs.Past.{noWrench}
 use Rattle.spatial.specs.declared.Wrench.{Wrench}
-use Rattle.model.specs.Flat.{Tables, Sized, jointAt, linkAt}
+use Rattle.model.specs.Flat.{Tables, jointAt, linkAt}
 use Rattle.model.specs.declared.JointType.{JointType}
 use Rattle.model.specs.declared.JointType.the-variants.{Fixed, Revolute, Prismatic}
 use Rattle.model.specs.declared.Pose.{Pose}
 use Rattle.model.specs.declared.Pose.the-variants.{Half, Slide}
-use Rattle.dynamics.specs.Run.{Run, Fit}
+use Rattle.dynamics.specs.Run.{Run}
 
 -- a moving joint's number in a list; a fixed joint has none, and takes +0
 unfoldable pub valueIn : JointType → ℕ → List Float → Float
@@ -37,9 +37,3 @@ runOf t count poses speeds accelerations loads =
       acceleration = λ j. valueIn (joint j .kind) (joint j .number) accelerations;
       load = λ l. getD loads l noWrench;
     }
-
--- what each kernel needs of its lists, with p numbers of poses and m of output
-pub record Ready (t : Tables) (run : Run) (p m : ℕ) : Type 0 where
-  pub sized : Sized t
-  pub fit : Fit run m
-  pub poses : m * 2 ≤ p

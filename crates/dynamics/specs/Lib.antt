@@ -4,6 +4,5 @@ pub mod Weights
 pub mod Run
 pub mod Figures
 pub mod Flat
-pub mod Work
 pub mod Output
 pub mod Same

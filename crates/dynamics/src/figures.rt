@@ -29,7 +29,7 @@ fn figure(kind: JointType, w: Wrench, axis: Vector3) -> f64
 }
 
 // A moving joint's figure, stored at its number.
-pub(crate) fn put(joint: Joint, total: Wrench, output: &mut [f64])
+pub fn put(joint: Joint, total: Wrench, output: &mut [f64])
     requires { ⌜ (moves (joint .kind) ≡ true → joint .number < length (now output)) ⌝ }
     ensures { λ _. ⌜ now (output .exit) ≡ putOf joint total (now (output .entry)) ⌝ }
 {
@@ -48,7 +48,7 @@ pub(crate) fn put(joint: Joint, total: Wrench, output: &mut [f64])
 }
 
 // The root's wrench in world axes, in the first six places.
-pub(crate) fn put_root(base: Quaternion, root: Wrench, output: &mut [f64])
+pub fn put_root(base: Quaternion, root: Wrench, output: &mut [f64])
     requires { ⌜ 6 ≤ length (now output) ⌝ }
     ensures { λ _. ⌜ now (output .exit) ≡ wrenchNumbers (worldWrench base root) ++ drop 6 (now (output .entry)) ⌝ }
 {

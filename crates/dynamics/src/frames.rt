@@ -29,7 +29,7 @@ fn half_turn(s: f64, c: f64, axis: Vector3) -> Quaternion
 }
 
 // A pose of another kind than the joint's leaves the origin.
-pub(crate) fn joint_frame(kind: JointType, origin: Frame, axis: Vector3, pose: Pose) -> Frame
+pub fn joint_frame(kind: JointType, origin: Frame, axis: Vector3, pose: Pose) -> Frame
     ensures { λ r. ⌜ r ≡ jointFrame kind origin axis pose ⌝ }
 {
     match kind {
@@ -104,7 +104,7 @@ fn pose_in(kind: JointType, number: usize, poses: &[f64]) -> Pose
 }
 
 // A joint's frame at its pose in the list.
-pub(crate) fn frame_in(joint: Joint, poses: &[f64]) -> Frame
+pub fn frame_in(joint: Joint, poses: &[f64]) -> Frame
     requires { ⌜ (moves (joint .kind) ≡ true → joint .number * 2 + 1 < length (now poses)) ⌝ }
     ensures { λ r. ⌜ r ≡ jointFrame (joint .kind) (joint .origin) (joint .axis) (poseIn (joint .kind) (joint .number) (now (poses .entry))) ⌝ }
 {
@@ -115,7 +115,7 @@ pub(crate) fn frame_in(joint: Joint, poses: &[f64]) -> Frame
 }
 
 // The same frame, made part by part: gravity has code of its own, since what two kernels share is inlined in neither.
-pub(crate) fn parts_in(joint: Joint, poses: &[f64]) -> Frame
+pub fn parts_in(joint: Joint, poses: &[f64]) -> Frame
     requires { ⌜ (moves (joint .kind) ≡ true → joint .number * 2 + 1 < length (now poses)) ⌝ }
     ensures { λ r. ⌜ r ≡ jointFrame (joint .kind) (joint .origin) (joint .axis) (poseIn (joint .kind) (joint .number) (now (poses .entry))) ⌝ }
 {

@@ -1,12 +1,8 @@
-// Inverse dynamics and gravity: joint frames, motions, wrenches, and the two kernels over lent tables.
+// The steps of inverse dynamics and gravity: joint frames, motions, wrenches and figures.
 pub mod figures;
-pub mod floating;
 pub mod frames;
-pub mod gravity;
-pub mod inverse;
 pub mod motions;
 pub mod weights;
-pub mod work;
 
 use spatial::Vector3;
 

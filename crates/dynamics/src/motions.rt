@@ -123,7 +123,7 @@ fn value_in(kind: JointType, number: usize, list: &[f64]) -> f64
 }
 
 // A joint's step, at its speed and acceleration in the lists.
-pub(crate) fn moved_in<'a>(
+pub fn moved_in<'a>(
     joint: Joint,
     frame: Frame,
     speeds: &'a [f64],
@@ -155,7 +155,7 @@ fn inertial_wrench(link: Link, m: Motion) -> Wrench
     }
 }
 
-pub(crate) fn inertial_wrench_at(links: &[f64], l: usize, m: Motion) -> Wrench
+pub fn inertial_wrench_at(links: &[f64], l: usize, m: Motion) -> Wrench
     requires { ⌜ (l < 64) × (length (now links) ≡ 832) ⌝ }
     ensures { λ r. ⌜ r ≡ inertialWrench (linkAt (now (links .entry)) l) m ⌝ }
 {
@@ -178,7 +178,7 @@ fn root_wrench(link: Link, m: Motion) -> Wrench
     }
 }
 
-pub(crate) fn root_wrench_at(links: &[f64], m: Motion) -> Wrench
+pub fn root_wrench_at(links: &[f64], m: Motion) -> Wrench
     requires { ⌜ length (now links) ≡ 832 ⌝ }
     ensures { λ r. ⌜ r ≡ inertialWrench (linkAt (now (links .entry)) 0) m ⌝ }
 {

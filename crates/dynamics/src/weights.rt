@@ -31,7 +31,7 @@ fn gravity_wrench(link: Link, g: Vector3) -> Wrench
     }
 }
 
-pub(crate) fn gravity_wrench_at(links: &[f64], l: usize, g: Vector3) -> Wrench
+pub fn gravity_wrench_at(links: &[f64], l: usize, g: Vector3) -> Wrench
     requires { ⌜ (l < 64) × (length (now links) ≡ 832) ⌝ }
     ensures { λ r. ⌜ r ≡ gravityWrench (linkAt (now (links .entry)) l) g ⌝ }
 {

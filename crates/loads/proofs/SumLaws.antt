@@ -7,11 +7,10 @@ use native.Mathlib.Omega.{arith}
 use native.Mathlib.Numerals.{add-one}
 use lib.Ieee.{Float}
 use lib.Dec.{leb}
-use lib.ListN.{length, getD, set, take, replicate, length-append}
+use lib.ListN.{length, getD, set, take, length-append}
 use lib.Seq.{take-all, take-length, take-suc, take-suc-set}
 use Rattle.spatial.proofs.BoolLaws.{by-bool, upto}
 use Rattle.spatial.specs.declared.Wrench.{Wrench}
-use Rattle.spatial.specs.Constants.{zeroWrench}
 use Rattle.spatial.specs.Past.{noWrench}
 use Rattle.loads.specs.declared.Load.{Load}
 use Rattle.loads.specs.declared.LoadSums.{LoadSums}
@@ -23,10 +22,7 @@ use Rattle.loads.specs.declared.Amount.the-variants.{Few, Many}
 use Rattle.loads.specs.Checks.{linkId, finiteness, tableLength, amount}
 use Rattle.loads.specs.Sums.{startSums, sumAt, sumStep, sumFrom, loadSums, preparedSums, walkStart, walkCount, loadAt, tableLoads, flatSums}
 
--- a refusal number with sums, and in place of another
-abbrev pub told : ℕ → List Wrench → LoadSums
-told n sums = record { number = n; sums = sums }
-
+-- a refusal number in place of another
 abbrev pub numbered : ℕ → LoadSums → LoadSums
 numbered n s = record { number = n; sums = s .sums }
 
@@ -66,11 +62,6 @@ pub start-number : startSums .number ≡ 0
 unfolding startSums
 start-number = refl
 
--- sums of +0
-pub start-told : (n : ℕ) (sums : List Wrench) → sums ≡ replicate 64 zeroWrench → told n sums ≡ numbered n startSums
-unfolding startSums
-start-told n sums e = ap (told n) e
-
 pub sum-append : (id links : ℕ) (s : LoadSums) (ls : List Load) (l : Load) → sumFrom id links s (ls ++ (l ∷ [])) ≡ sumStep id links (sumFrom id links s ls) l
 unfolding sumFrom
 sum-append id links s [] l = refl
@@ -84,10 +75,6 @@ module _ (id count : ℕ) (ids links : List ℕ) (ws : List Float) where
   pub swept-none : swept 0 ≡ startSums
   unfolding tableLoads sumFrom
   swept-none = refl
-
-  pub swept-zero : (sums : List Wrench) → sums ≡ replicate 64 zeroWrench → told 0 sums ≡ swept 0
-  unfolding tableLoads sumFrom startSums
-  swept-zero sums e = ap (told 0) e
 
   swept-suc : (n : ℕ) → swept (suc n) ≡ sumStep id count (swept n) (loadAt ids links ws n)
   unfolding tableLoads

@@ -1,7 +1,8 @@
 // Load sums.
 ghost use mathlib.Core.Path.{_≡_};
-ghost use Prim.Native.Nat.{_<_, _≤_};
+ghost use Prim.Native.Nat.{ℕ, _<_, _≤_};
 ghost use lib.ListN.{length, getD};
+ghost use Rattle.spatial.specs.Past.{noWrench};
 ghost use Rattle.spatial.specs.Tables.{wrenchesIn};
 ghost use Rattle.loads.specs.Sums.{noLoad, startSums, sumStep, preparedSums, walkStart, walkCount, flatSums};
 use crate::Amount;
@@ -108,7 +109,17 @@ pub fn prepare_indexed_loads<'a>(
     s
 }
 
-// The same in a lent table of 64 sums, six numbers each; the refusal number is answered.
+// How many of so many links have a place in a table of 64.
+fn places(count: usize) -> usize
+    ensures { λ r. ⌜ (r ≤ count) × (r ≤ 64) × ((l : ℕ) → l < count → l < 64 → l < r) ⌝ }
+{
+    if count < 64 {
+        return count;
+    }
+    64
+}
+
+// The same in a lent table of 64 sums, six numbers each, for the links that there are; the refusal number is answered.
 pub fn sum_indexed_loads<'a>(
     id: u64,
     count: usize,
@@ -118,9 +129,9 @@ pub fn sum_indexed_loads<'a>(
     sums: &mut [f64],
 ) -> u8
     requires { ⌜ length (now sums) ≡ 384 ⌝ }
-    ensures { λ r. ⌜ record { number = r; sums = wrenchesIn (now (sums .exit)) } ≡ flatSums id count (now (ids .entry)) (now (links .entry)) (now (numbers .entry)) ⌝ }
+    ensures { λ r. ⌜ (let s = flatSums id count (now (ids .entry)) (now (links .entry)) (now (numbers .entry)) in (r ≡ s .number) × ((l : ℕ) → l < count → getD (wrenchesIn (now (sums .exit))) l noWrench ≡ getD (s .sums) l noWrench)) ⌝ }
 {
-    zero_wrenches(sums);
+    zero_wrenches(sums, places(count));
     let Length::Right = check_table(ids.len(), links.len(), numbers.len()) else {
         return 3;
     };

@@ -4,3 +4,5 @@ pub mod NumberedLaws
 pub mod PoseLaws
 pub mod GoodLaws
 pub mod ProductLaws
+pub mod PassLaws
+pub mod WalkLaws

@@ -1,6 +1,6 @@
 -- Laws of the first refusal in a list, and of positions.
 use Prim.Native.Nat.{ℕ, zero, suc, _+_, _<_, _≤_}
-use mathlib.Core.Path.{_≡_, refl, sym, ap, _∙_}
+use mathlib.Core.Path.{_≡_, refl, ap, _∙_}
 use mathlib.Core.Bool.{Bool, true, false}
 use mathlib.Core.List.{List}
 use native.Mathlib.Numerals.{add-one}
@@ -15,7 +15,7 @@ use Rattle.model.specs.declared.Checked.the-variants.{Good, WrongLength,
 use Rattle.model.specs.Answer.{orElse, unless}
 use Rattle.model.specs.Flat.{kindOf}
 use Rattle.model.specs.Numbers.{Numbering}
-use Rattle.model.specs.Poses.{poseNumbers, poseFits, GoodPose, poseChecked, first, kindOfNumber, noPose, positionsChecked}
+use Rattle.model.specs.Poses.{poseNumbers, poseFits, GoodPose, poseChecked, first, noPose, positionsChecked}
 use Rattle.model.specs.Marks.{Coded}
 
 -- a loop that keeps the first refusal: its start, a turn
@@ -31,6 +31,11 @@ first-same : (f g : ℕ → Checked) (n : ℕ) → ((k : ℕ) → k < n → f k 
 unfolding first
 first-same f g zero h = refl
 first-same f g (suc n) h = rw (first-same f g n (λ k l. h k (omega arith)), h n (omega arith))
+
+pub first-good : (f : ℕ → Checked) (n : ℕ) → ((k : ℕ) → k < n → f k ≡ Good) → first n f ≡ Good
+unfolding first
+first-good f zero h = refl
+first-good f (suc n) h = rw (first-good f n (λ k l. h k (omega arith)), h n (omega arith))
 
 module _ (t : Numbering) (kind : ℕ → JointType) (ps : List Pose) (count : ℕ) where
   pub wrong-length : (count ≡ t .moving → ⊥) → WrongLength ≡ positionsChecked t kind ps count

@@ -40,7 +40,7 @@ each v h =
 finite : (v : Vector3) → isFinite (v .x) ≡ true → isFinite (v .y) ≡ true → isFinite (v .z) ≡ true → Finite v
 finite v x y z = sym (all-three (v .x) (v .y) (v .z)) ∙ and-both _ _ (and-both _ _ x y) z
 
-finite-times : (a b : Vector3) → Finite (timesEach a b) → Finite a × Finite b
+pub finite-times : (a b : Vector3) → Finite (timesEach a b) → Finite a × Finite b
 unfolding timesEach
 finite-times a b h =
     let e = each (timesEach a b) h in
@@ -129,6 +129,16 @@ told-turn good now a b c d f n t u =
 
 -- ---- a link
 
+pub link-good : (l : Link) → le plusZero (l .mass) ≡ true → Finite (scaled (l .center) (l .mass)) → Finite (l .inertia .x) → Finite (l .inertia .y) → Finite (l .inertia .z) → goodLink l ≡ true
+unfolding allFinite
+link-good l h m x y z =
+    let ix = vectorNumbers (l .inertia .x) in
+    let iy = vectorNumbers (l .inertia .y) in
+    let iz = vectorNumbers (l .inertia .z) in
+    let w = finite-scaled (l .center) (l .mass) m in
+    let rows = both ix (iy ++ iz) x (both iy iz y z) in
+    says-link l (record { finite = and-both _ _ (w .1) (both (vectorNumbers (l .center)) (matrixNumbers (l .inertia)) (w .0) rows); mass = h; moment = m })
+
 link-turn : (a b : Vector3) (l : Link) → Turn (le plusZero (l .mass)) a b (timesEach (timesEach a (scaled (l .center) (l .mass))) (l .inertia .y)) (timesEach (timesEach b (l .inertia .x)) (l .inertia .z)) (goodLink l)
 unfolding allFinite
 link-turn a b l =
@@ -142,9 +152,7 @@ link-turn a b l =
           let m = finite-times a moment (y .0) in
           let z = finite-times (timesEach b ix) iz d in
           let x = finite-times b ix (z .0) in
-          let w = finite-scaled (l .center) (l .mass) (m .1) in
-          let rows = both (vectorNumbers ix) (vectorNumbers iy ++ vectorNumbers iz) (x .1) (both (vectorNumbers iy) (vectorNumbers iz) (y .1) (z .1)) in
-          (m .0, x .0, says-link l (record { finite = and-both _ _ (w .1) (both (vectorNumbers (l .center)) (matrixNumbers (l .inertia)) (w .0) rows); mass = h; moment = m .1 }));
+          (m .0, x .0, link-good l h (m .1) (x .1) (y .1) (z .1));
       kept = λ h p q.
           let g = link-says l h in
           let rows = parts (vectorNumbers (l .center)) (matrixNumbers (l .inertia)) (and-right (isFinite (l .mass)) _ (g .finite)) .1 in
@@ -159,6 +167,12 @@ told-link good a b f n l m u v c d t e h p q r s =
 
 -- ---- a joint
 
+pub joint-finite : (t : Joint) → unitQuaternion (t .origin .rotation) ≡ true → Finite (t .origin .translation) → Finite (t .axis) → allFinite (jointNumbers t) ≡ true
+joint-finite t r x y =
+    let turned = quaternionNumbers (t .origin .rotation) in
+    let moved = vectorNumbers (t .origin .translation) in
+    both (frameNumbers (t .origin)) (vectorNumbers (t .axis)) (both turned moved (unit-rotation-finite (t .origin .rotation) r) x) y
+
 joint-turn : (a b : Vector3) (j code : ℕ) (t : Joint) → Turn (fits j code t) a b (timesEach a (t .origin .translation)) (timesEach b (t .axis)) (goodJoint j code t)
 unfolding goodJoint fits
 joint-turn a b j code t =
@@ -169,8 +183,8 @@ joint-turn a b j code t =
       sound = λ h c d.
           let x = finite-times a (t .origin .translation) c in
           let y = finite-times b (t .axis) d in
-          let r = unit-rotation-finite (t .origin .rotation) (and-right (leb code 2 && leb (t .parent) j) u (and-left ((leb code 2 && leb (t .parent) j) && u) (axisFits t) h)) in
-          (x .0, y .0, and-both _ _ (both (frameNumbers (t .origin)) (vectorNumbers (t .axis)) (both turned moved r (x .1)) (y .1)) h);
+          let r = and-right (leb code 2 && leb (t .parent) j) u (and-left ((leb code 2 && leb (t .parent) j) && u) (axisFits t) h) in
+          (x .0, y .0, and-both _ _ (joint-finite t r (x .1) (y .1)) h);
       kept = λ h p q.
           let n = parts (frameNumbers (t .origin)) (vectorNumbers (t .axis)) (and-left (allFinite (jointNumbers t)) _ h) in
           (and-right (allFinite (jointNumbers t)) _ h, zeros-times a _ (parts turned moved (n .0) .1) p, zeros-times b _ (n .1) q);

@@ -10,3 +10,4 @@ pub mod Poses
 pub mod Lists
 pub mod Marks
 pub mod Products
+pub mod Walk

@@ -6,6 +6,7 @@ pub mod lists;
 pub mod numbers;
 pub mod poses;
 pub mod tables;
+pub mod walk;
 
 ghost use mathlib.Core.Path.{_≡_};
 ghost use Rattle.model.specs.Answer.{numberOf};

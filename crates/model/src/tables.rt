@@ -1,6 +1,5 @@
 // The check of a model.
 ghost use mathlib.Core.Path.{_≡_};
-ghost use lib.ListN.{length};
 ghost use Rattle.model.specs.Flat.{Sized, viewOf, modelView, lent};
 ghost use Rattle.model.specs.Good.{countsFit, modelChecked};
 use crate::Checked;
@@ -10,7 +9,7 @@ use crate::links::links_good;
 use crate::numbers::numbers_good;
 
 // 1 to 64 links, and no more moving joints than joints.
-fn counts_fit(count: usize, moving: usize) -> bool
+pub fn counts_fit(count: usize, moving: usize) -> bool
     ensures { λ r. ⌜ r ≡ countsFit count moving ⌝ }
 {
     if count < 1 {

@@ -4,6 +4,7 @@ use mathlib.Core.List.{List, [], _∷_}
 use mathlib.Core.Path.{_≡_, refl, ap, _∙_}
 use mathlib.Core.Logic.{inl, inr}
 use native.Mathlib.Omega.{arith}
+use lib.Ieee.{Float}
 use types.Run.{OneOf}
 use denote.Enum.Declared.{tagOf}
 use Rattle.model.proofs.Checked.{the-type}
@@ -11,9 +12,11 @@ use Rattle.model.specs.Answer.{orElse}
 use Rattle.model.specs.declared.Checked.{Checked}
 use Rattle.model.specs.declared.Checked.the-variants.{Good, InvalidModel, InvalidBaseState, WrongLength, InvalidPose, NonFiniteInput}
 use Rattle.model.specs.View.{View, numberingOf}
+use Rattle.model.specs.Flat.{Tables, viewOf}
 use Rattle.model.specs.Good.{modelChecked}
 use Rattle.model.specs.Bases.{baseChecked}
-use Rattle.model.specs.Poses.{positionsChecked}
+use Rattle.model.specs.Poses.{posesIn, positionsChecked}
+use Rattle.model.specs.Walk.{Passed}
 use Rattle.model.specs.declared.BaseState.{BaseState}
 use Rattle.model.specs.declared.Pose.{Pose}
 use Rattle.outcome.specs.Refusal.{startChecked}
@@ -52,3 +55,16 @@ module _ (t : View) (base : BaseState) (ps : List Pose) (entries : ℕ) (a : Che
     pub start-positions : baseChecked base ≡ Good → a ≡ positionsChecked (numberingOf t) (λ j. t .joint j .kind) ps entries → a ≡ startChecked t base ps entries
     unfolding startChecked
     start-positions sound e = rw (good, sound) e
+
+or-good : (a : Checked) → a ≡ orElse a Good
+or-good Good = refl
+or-good InvalidModel = refl
+or-good InvalidBaseState = refl
+or-good WrongLength = refl
+or-good InvalidPose = refl
+or-good NonFiniteInput = refl
+
+-- where a walk has passed the model and its positions, only the base state is left
+pub start-passed : (t : Tables) (count moving : ℕ) (shapes : List ℕ) (poses : List Float) (base : BaseState) (entries : ℕ) (a : Checked) → Passed t count moving shapes poses → entries ≡ moving → a ≡ baseChecked base → a ≡ startChecked (viewOf t count moving) base (posesIn shapes poses) entries
+unfolding startChecked
+start-passed t count moving shapes poses base entries a p e h = rw (p .model, e, p .positions) (h ∙ or-good (baseChecked base))

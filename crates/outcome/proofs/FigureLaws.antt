@@ -4,7 +4,7 @@ use mathlib.Core.Bool.{true}
 use mathlib.Core.List.{List, [], _++_}
 use mathlib.Core.Path.{_≡_, refl, ap, _∙_}
 use native.Mathlib.Omega.{arith}
-use lib.ListN.{getD, getD-replicate}
+use lib.ListN.{length, getD, getD-replicate, length-replicate}
 use lib.Ieee.{Float, nan}
 use Rattle.spatial.specs.Constants.{standardGravity, zeroTwist, zeroVector, plusZero, zeroWrench}
 use Rattle.spatial.specs.Past.{noWrench}
@@ -50,6 +50,10 @@ list-same : (m : ℕ) (f g : ℕ → Float) → ((i : ℕ) → i < m → f i ≡
 unfolding listOf
 list-same zero f g h = refl
 list-same (suc m) f g h = rw (list-same m f g (λ i l. h i (omega arith)), h m (omega arith))
+
+pub no-accelerations-long : length noAccelerations ≡ 63
+unfolding noAccelerations
+no-accelerations-long = length-replicate 63 plusZero
 
 -- runs with the same figures leave the same list
 solved-same : {S : Type 0} (mode : RootMode) (base : Quaternion) (v : View) → Numbered (numberingOf v) → (t u : Run) (k l : Kernel S Wrench) → t .count ≡ v .count → AlikeFigures t k u l → rootFigures mode base (rootOf k) ++ listOf (v .moving) (λ i. figureOf t k (holderOf (numberingOf v) (jointCount v) i)) ≡ rootFigures mode base (rootOf l) ++ listOf (v .moving) (λ i. figureOf u l (holderOf (numberingOf v) (jointCount v) i))
@@ -106,17 +110,13 @@ module _ (model : Model) (good : GoodModel (modelView model)) (ps : List Pose) (
         solved-same mode (base .frame .rotation) view (good .numbers) at-rest (loaded weighed) _ _ refl
         (gravity-alike at-rest (loaded weighed) (model .moving) (fit-good (tablesOf model) (model .count) (model .moving) table [] [] (loads .sums) good) root _ (gravity-run root _ e))
 
-  -- velocity product, with accelerations and loads of +0
-  module _ (mode : RootMode) (base : BaseState) (speeds : List Float) where
+  -- velocity product, with accelerations of +0, and loads of +0 on the links that there are
+  module _ (mode : RootMode) (base : BaseState) (speeds : List Float) (loads : List Wrench) (zero-load : (l : ℕ) → l < model .count → getD loads l noWrench ≡ zeroWrench) where
     abbrev coasting : Run
-    coasting = Flat.runOf (tablesOf model) (model .count) table speeds noAccelerations (startSums .sums)
+    coasting = Flat.runOf (tablesOf model) (model .count) table speeds noAccelerations loads
 
     abbrev product : Call
     product = callOf VelocityProduct mode model base ps entries speeds [] startSums
-
-    zero-load : (l : ℕ) → l < model .count → getD (startSums .sums) l noWrench ≡ zeroWrench
-    unfolding startSums
-    zero-load l h = getD-replicate 64 l zeroWrench noWrench (omega (arith, good .few))
 
     zero-acceleration : (j : ℕ) → j < jointCount view → (k : JointType) → view .joint j .kind ≡ k → moves k ≡ true → Flat.valueIn k (view .joint j .number) noAccelerations ≡ plusZero
     unfolding Flat.valueIn noAccelerations
@@ -138,4 +138,4 @@ module _ (model : Model) (good : GoodModel (modelView model)) (ps : List Pose) (
     unfolding figures
     velocity-figures root e =
         solved-same mode (base .frame .rotation) view (good .numbers) coasting (still product) _ _ refl
-        (inverse-alike coasting (still product) (model .moving) (fit-good (tablesOf model) (model .count) (model .moving) table speeds noAccelerations (startSums .sums) good) root _ (velocity-run root _ e))
+        (inverse-alike coasting (still product) (model .moving) (fit-good (tablesOf model) (model .count) (model .moving) table speeds noAccelerations loads good) root _ (velocity-run root _ e))

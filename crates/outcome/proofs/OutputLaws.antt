@@ -1,5 +1,5 @@
 -- What a kernel writes, as the list that the definition gives.
-use Prim.Native.Nat.{ℕ, zero, suc, _+_, _*_, _<_, _≤_}
+use Prim.Native.Nat.{ℕ, zero, suc, _+_, _<_, _≤_}
 use mathlib.Core.List.{List, [], _∷_, _++_}
 use mathlib.Core.Path.{_≡_, sym, ap, _∙_}
 use native.Mathlib.Nat.{eq-or-lt-of-le}
@@ -16,10 +16,10 @@ use Rattle.model.proofs.NumberedLaws.{holder-holds}
 use Rattle.dynamics.specs.Run.{Run, jointCount}
 use Rattle.dynamics.specs.Figures.{figureOf, Written}
 use Rattle.dynamics.specs.Run.{Fit}
-use Rattle.dynamics.specs.Flat.{runOf, Ready}
+use Rattle.dynamics.specs.Flat.{runOf}
 use Rattle.dynamics.specs.Output.{Floating}
 use Rattle.spatial.specs.declared.Quaternion.{Quaternion}
-use Rattle.model.specs.Flat.{Tables, Sized, viewOf}
+use Rattle.model.specs.Flat.{Tables, viewOf}
 use Rattle.model.specs.Good.{GoodModel}
 use Rattle.model.specs.declared.RootMode.the-variants.{Fixed, Floating as FloatingMode}
 use Rattle.model.proofs.GoodLaws.{parent-first, number-below, number-apart}
@@ -70,9 +70,8 @@ fit-good tables count moving poses speeds accelerations loads g =
       apart = number-apart t g;
     }
 
-pub ready-good : (tables : Tables) (count moving : ℕ) (poses speeds accelerations : List Float) (loads : List Wrench) → Sized tables → GoodModel (viewOf tables count moving) → moving * 2 ≤ length poses → (n : ℕ) → n ≡ moving → Ready tables (runOf tables count poses speeds accelerations loads) (length poses) n
-ready-good tables count moving poses speeds accelerations loads z g h n e =
-    record { sized = z; fit = rw e (fit-good tables count moving poses speeds accelerations loads g); poses = rw e h }
+pub fit-as-long : (tables : Tables) (count moving : ℕ) → GoodModel (viewOf tables count moving) → (n : ℕ) → n ≡ moving → Fit (runOf tables count [] [] [] []) n
+fit-as-long tables count moving g n e = rw e (fit-good tables count moving [] [] [] [] g)
 
 module _ {S : Type 0} (tables : Tables) (count moving : ℕ) (poses speeds accelerations : List Float) (loads : List Wrench) (g : GoodModel (viewOf tables count moving)) (k : Kernel S Wrench) (base : Quaternion) (out : List Float) where
   abbrev run : Run

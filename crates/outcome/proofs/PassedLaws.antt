@@ -8,9 +8,9 @@ use lib.ListN.{length}
 use lib.Ieee.{Float}
 use borrow.Author.Tests.{eqb-true}
 use Rattle.fit.specs.Finite.{allFinite}
-use Rattle.model.specs.Answer.{orElse, unless}
+use Rattle.model.specs.Answer.{unless}
 use Rattle.model.specs.Bases.{baseChecked}
-use Rattle.model.specs.Good.{GoodModel, goodModel, modelChecked}
+use Rattle.model.specs.Good.{GoodModel, countsFit, goodModel, modelChecked}
 use Rattle.model.specs.Lists.{listChecked}
 use Rattle.model.specs.Poses.{positionsChecked}
 use Rattle.model.specs.View.{View, numberingOf}
@@ -18,13 +18,18 @@ use Rattle.model.specs.declared.BaseState.{BaseState}
 use Rattle.model.specs.declared.Checked.the-variants.{Good, InvalidModel, WrongLength, NonFiniteInput}
 use Rattle.model.specs.declared.Pose.{Pose}
 use Rattle.model.specs.declared.RootMode.{RootMode}
-use Rattle.model.proofs.GoodLaws.{good-says}
+use Rattle.model.proofs.GoodLaws.{good-says, says-good}
+use Rattle.spatial.proofs.BoolLaws.{and-left}
 use Rattle.outcome.specs.Refusal.{startChecked, outputLength, outputChecked}
 use Rattle.outcome.proofs.PositionLaws.{good-first, good-next, right}
 
 pub is-good : (b : Bool) → unless b InvalidModel ≡ Good → b ≡ true
 is-good true e = refl
 is-good false e = cc
+
+pub counts-good : (t : View) → GoodModel t → countsFit (t .count) (t .moving) ≡ true
+unfolding goodModel
+counts-good t g = and-left (countsFit (t .count) (t .moving)) _ (says-good t g)
 
 module _ (t : View) (base : BaseState) (ps : List Pose) (entries : ℕ) (e : startChecked t base ps entries ≡ Good) where
   pub model-good : GoodModel t

@@ -18,7 +18,7 @@ use Rattle.model.specs.declared.Checked.{Checked}
 use Rattle.model.specs.declared.Checked.the-variants.{Good, WrongLength, NonFiniteInput}
 use Rattle.model.specs.declared.JointType.{JointType}
 use Rattle.model.proofs.GoodLaws.{says-good, says-base, one-holder}
-use Rattle.model.proofs.PoseLaws.{says-pose}
+use Rattle.model.proofs.PoseLaws.{first-good, says-pose}
 use Rattle.outcome.specs.declared.Function.{Function}
 use Rattle.outcome.specs.declared.Function.the-variants.{InverseDynamics, Gravity, VelocityProduct}
 use Rattle.outcome.specs.Call.{Call}
@@ -28,11 +28,6 @@ use Rattle.outcome.proofs.AnswerLaws.{Refused, kept}
 use Rattle.outcome.proofs.PositionLaws.{kind-held}
 
 -- ---- the law of a list of checks: the first that refuses decides
-
-first-good : (f : ℕ → Checked) (n : ℕ) → ((k : ℕ) → k < n → f k ≡ Good) → first n f ≡ Good
-unfolding first
-first-good f zero h = refl
-first-good f (suc n) h = rw (first-good f n (λ k l. h k (omega arith)), h n (omega arith))
 
 first-bad : (f : ℕ → Checked) (i n : ℕ) → i < n → ((k : ℕ) → k < i → f k ≡ Good) → Refused (f i) → first n f ≡ f i
 unfolding first

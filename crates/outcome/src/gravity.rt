@@ -18,6 +18,7 @@ use model::Checked;
 use model::RootMode;
 use model::number_of;
 use spatial::constants::standard_gravity;
+use sweeps::gravity::gravity_outward;
 
 // Over lent tables, for callers who hold a model's, the positions' and those that the kernel works in: a refusal's number with the
 // output as found, or the figures.
@@ -43,7 +44,23 @@ pub fn gravity_lent<'a>(
     requires { ⌜ Sized (lent (now links) (now joints) (now kinds) (now parents) (now numbers)) × (length (now shapes) ≡ 63) × (length (now poses) ≡ 126) × (length (now frames) ≡ 441) × (length (now gravities) ≡ 192) × (length (now sums) ≡ 384) ⌝ }
     ensures { λ r. ⌜ told r (now (output .exit)) ≡ outcome (lentCall Function.Gravity mode (lent (now (links .entry)) (now (joints .entry)) (now (kinds .entry)) (now (parents .entry)) (now (numbers .entry))) count moving base (posesIn (now (shapes .entry)) (now (poses .entry))) entries [] [] (record { number = refused; sums = wrenchesIn (now (sums .entry)) })) (now (output .entry)) ⌝ }
 {
+    let root = turned(base.frame.rotation, standard_gravity());
+    let passed = gravity_outward(
+        links,
+        joints,
+        kinds,
+        parents,
+        numbers,
+        count,
+        moving,
+        root,
+        shapes,
+        poses,
+        frames,
+        gravities,
+    );
     let start = check_start(
+        passed,
         links,
         joints,
         kinds,
@@ -66,7 +83,6 @@ pub fn gravity_lent<'a>(
     if refused != 0 {
         return refused;
     }
-    let root = turned(base.frame.rotation, standard_gravity());
     solve_gravity(
         mode,
         links,
@@ -78,7 +94,6 @@ pub fn gravity_lent<'a>(
         moving,
         base.frame.rotation,
         root,
-        poses,
         frames,
         gravities,
         sums,

@@ -17,6 +17,7 @@ use model::Checked;
 use model::RootMode;
 use model::lists::check_list;
 use model::number_of;
+use sweeps::inverse::inverse_dynamics_outward;
 
 // Over lent tables, for callers who hold a model's, the positions' and those that the kernel works in: a refusal's number with the
 // output as found, or the figures.
@@ -44,7 +45,25 @@ pub fn inverse_dynamics_lent<'a>(
     requires { ⌜ Sized (lent (now links) (now joints) (now kinds) (now parents) (now numbers)) × (length (now shapes) ≡ 63) × (length (now poses) ≡ 126) × (length (now frames) ≡ 441) × (length (now motions) ≡ 576) × (length (now sums) ≡ 384) ⌝ }
     ensures { λ r. ⌜ told r (now (output .exit)) ≡ outcome (lentCall Function.InverseDynamics mode (lent (now (links .entry)) (now (joints .entry)) (now (kinds .entry)) (now (parents .entry)) (now (numbers .entry))) count moving base (posesIn (now (shapes .entry)) (now (poses .entry))) entries (now (speeds .entry)) (now (accelerations .entry)) (record { number = refused; sums = wrenchesIn (now (sums .entry)) })) (now (output .entry)) ⌝ }
 {
+    let root = inverse_root(mode, base);
+    let passed = inverse_dynamics_outward(
+        links,
+        joints,
+        kinds,
+        parents,
+        numbers,
+        count,
+        moving,
+        root,
+        shapes,
+        poses,
+        speeds,
+        accelerations,
+        frames,
+        motions,
+    );
     let start = check_start(
+        passed,
         links,
         joints,
         kinds,
@@ -75,7 +94,6 @@ pub fn inverse_dynamics_lent<'a>(
     if refused != 0 {
         return refused;
     }
-    let root = inverse_root(mode, base);
     solve_inverse(
         mode,
         links,
@@ -87,9 +105,6 @@ pub fn inverse_dynamics_lent<'a>(
         moving,
         base.frame.rotation,
         root,
-        poses,
-        speeds,
-        accelerations,
         frames,
         motions,
         sums,

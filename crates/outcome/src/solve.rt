@@ -1,27 +1,24 @@
-// A kernel's figures in either mode, over lent tables of a good model.
-ghost use mathlib.Core.List.{[]};
+// The figures of a swept tree in either mode, over lent tables of a good model.
+ghost use mathlib.Core.List.{List, []};
 ghost use mathlib.Core.Path.{_≡_};
-ghost use Prim.Native.Nat.{_*_, _≤_};
+ghost use lib.Ieee.{Float};
 ghost use lib.ListN.{length};
-ghost use Rattle.loads.specs.Sums.{startSums};
 ghost use Rattle.spatial.specs.Tables.{wrenchesIn};
 ghost use Rattle.model.specs.Flat.{Sized, lent, viewOf};
 ghost use Rattle.model.specs.Good.{GoodModel};
 ghost use Rattle.dynamics.specs.Flat.{runOf};
 ghost use Rattle.dynamics.specs.Figures.{inverseOf, gravityOf};
+ghost use Rattle.sweeps.specs.Swept.{InverseSwept, GravitySwept};
 ghost use Rattle.outcome.specs.Refusal.{outputLength};
 ghost use Rattle.outcome.specs.Solved.{solvedList};
-ghost use Rattle.outcome.specs.Table.{noAccelerations};
-use crate::roots::no_accelerations;
 use dynamics::Motion;
-use dynamics::floating::floating_gravity;
-use dynamics::floating::floating_inverse_dynamics;
-use dynamics::gravity::gravity_kernel;
-use dynamics::inverse::inverse_dynamics_kernel;
 use model::RootMode;
 use spatial::Quaternion;
 use spatial::Vector3;
-use spatial::tables::zero_wrenches;
+use sweeps::floating::floating_gravity;
+use sweeps::floating::floating_inverse_dynamics;
+use sweeps::gravity::gravity_inward;
+use sweeps::inverse::inverse_dynamics_inward;
 
 pub(crate) fn solve_inverse<'a>(
     mode: RootMode,
@@ -34,20 +31,17 @@ pub(crate) fn solve_inverse<'a>(
     moving: usize,
     base: Quaternion,
     root: Motion,
-    poses: &'a [f64],
-    speeds: &'a [f64],
-    accelerations: &'a [f64],
-    frames: &mut [f64],
-    motions: &mut [f64],
+    frames: &'a [f64],
+    motions: &'a [f64],
     sums: &mut [f64],
     output: &mut [f64],
 )
-    requires { ⌜ (let t = lent (now links) (now joints) (now kinds) (now parents) (now numbers) in Sized t × GoodModel (viewOf t count moving) × (moving * 2 ≤ length (now poses)) × (moving ≤ length (now speeds)) × (moving ≤ length (now accelerations)) × (length (now output) ≡ outputLength mode moving) × (length (now frames) ≡ 441) × (length (now motions) ≡ 576) × (length (now sums) ≡ 384)) ⌝ }
-    ensures { λ _. ⌜ (let t = lent (now (links .entry)) (now (joints .entry)) (now (kinds .entry)) (now (parents .entry)) (now (numbers .entry)) in let run = runOf t count (now (poses .entry)) (now (speeds .entry)) (now (accelerations .entry)) (wrenchesIn (now (sums .entry))) in now (output .exit) ≡ solvedList mode base t count moving run (inverseOf run root)) ⌝ }
+    requires { ⌜ (let t = lent (now links) (now joints) (now kinds) (now parents) (now numbers) in Sized t × GoodModel (viewOf t count moving) × (length (now output) ≡ outputLength mode moving) × (length (now frames) ≡ 441) × (length (now motions) ≡ 576) × (length (now sums) ≡ 384)) ⌝ }
+    ensures { λ _. ⌜ (let t = lent (now (links .entry)) (now (joints .entry)) (now (kinds .entry)) (now (parents .entry)) (now (numbers .entry)) in (poses speeds accelerations : List Float) → InverseSwept t count poses speeds accelerations root (now (frames .entry)) (now (motions .entry)) → (let run = runOf t count poses speeds accelerations (wrenchesIn (now (sums .entry))) in now (output .exit) ≡ solvedList mode base t count moving run (inverseOf run root))) ⌝ }
 {
     match mode {
         RootMode::Fixed => {
-            inverse_dynamics_kernel(
+            inverse_dynamics_inward(
                 links,
                 joints,
                 kinds,
@@ -55,9 +49,6 @@ pub(crate) fn solve_inverse<'a>(
                 numbers,
                 count,
                 root,
-                poses,
-                speeds,
-                accelerations,
                 frames,
                 motions,
                 sums,
@@ -74,74 +65,6 @@ pub(crate) fn solve_inverse<'a>(
                 count,
                 base,
                 root,
-                poses,
-                speeds,
-                accelerations,
-                frames,
-                motions,
-                sums,
-                output,
-            );
-        }
-    }
-}
-
-// No joint accelerations and no loads.
-pub(crate) fn solve_velocity<'a>(
-    mode: RootMode,
-    links: &'a [f64],
-    joints: &'a [f64],
-    kinds: &'a [u8],
-    parents: &'a [usize],
-    numbers: &'a [usize],
-    count: usize,
-    moving: usize,
-    base: Quaternion,
-    root: Motion,
-    poses: &'a [f64],
-    speeds: &'a [f64],
-    frames: &mut [f64],
-    motions: &mut [f64],
-    sums: &mut [f64],
-    output: &mut [f64],
-)
-    requires { ⌜ (let t = lent (now links) (now joints) (now kinds) (now parents) (now numbers) in Sized t × GoodModel (viewOf t count moving) × (moving * 2 ≤ length (now poses)) × (moving ≤ length (now speeds)) × (length (now output) ≡ outputLength mode moving) × (length (now frames) ≡ 441) × (length (now motions) ≡ 576) × (length (now sums) ≡ 384)) ⌝ }
-    ensures { λ _. ⌜ (let t = lent (now (links .entry)) (now (joints .entry)) (now (kinds .entry)) (now (parents .entry)) (now (numbers .entry)) in let run = runOf t count (now (poses .entry)) (now (speeds .entry)) noAccelerations (startSums .sums) in now (output .exit) ≡ solvedList mode base t count moving run (inverseOf run root)) ⌝ }
-{
-    let accelerations = no_accelerations();
-    zero_wrenches(sums);
-    match mode {
-        RootMode::Fixed => {
-            inverse_dynamics_kernel(
-                links,
-                joints,
-                kinds,
-                parents,
-                numbers,
-                count,
-                root,
-                poses,
-                speeds,
-                &accelerations,
-                frames,
-                motions,
-                sums,
-                output,
-            );
-        }
-        RootMode::Floating => {
-            floating_inverse_dynamics(
-                links,
-                joints,
-                kinds,
-                parents,
-                numbers,
-                count,
-                base,
-                root,
-                poses,
-                speeds,
-                &accelerations,
                 frames,
                 motions,
                 sums,
@@ -162,18 +85,17 @@ pub(crate) fn solve_gravity<'a>(
     moving: usize,
     base: Quaternion,
     root: Vector3,
-    poses: &'a [f64],
-    frames: &mut [f64],
-    gravities: &mut [f64],
+    frames: &'a [f64],
+    gravities: &'a [f64],
     sums: &mut [f64],
     output: &mut [f64],
 )
-    requires { ⌜ (let t = lent (now links) (now joints) (now kinds) (now parents) (now numbers) in Sized t × GoodModel (viewOf t count moving) × (moving * 2 ≤ length (now poses)) × (length (now output) ≡ outputLength mode moving) × (length (now frames) ≡ 441) × (length (now gravities) ≡ 192) × (length (now sums) ≡ 384)) ⌝ }
-    ensures { λ _. ⌜ (let t = lent (now (links .entry)) (now (joints .entry)) (now (kinds .entry)) (now (parents .entry)) (now (numbers .entry)) in let run = runOf t count (now (poses .entry)) [] [] (wrenchesIn (now (sums .entry))) in now (output .exit) ≡ solvedList mode base t count moving run (gravityOf run root)) ⌝ }
+    requires { ⌜ (let t = lent (now links) (now joints) (now kinds) (now parents) (now numbers) in Sized t × GoodModel (viewOf t count moving) × (length (now output) ≡ outputLength mode moving) × (length (now frames) ≡ 441) × (length (now gravities) ≡ 192) × (length (now sums) ≡ 384)) ⌝ }
+    ensures { λ _. ⌜ (let t = lent (now (links .entry)) (now (joints .entry)) (now (kinds .entry)) (now (parents .entry)) (now (numbers .entry)) in (poses : List Float) → GravitySwept t count poses root (now (frames .entry)) (now (gravities .entry)) → (let run = runOf t count poses [] [] (wrenchesIn (now (sums .entry))) in now (output .exit) ≡ solvedList mode base t count moving run (gravityOf run root))) ⌝ }
 {
     match mode {
         RootMode::Fixed => {
-            gravity_kernel(
+            gravity_inward(
                 links,
                 joints,
                 kinds,
@@ -181,7 +103,6 @@ pub(crate) fn solve_gravity<'a>(
                 numbers,
                 count,
                 root,
-                poses,
                 frames,
                 gravities,
                 sums,
@@ -198,7 +119,6 @@ pub(crate) fn solve_gravity<'a>(
                 count,
                 base,
                 root,
-                poses,
                 frames,
                 gravities,
                 sums,

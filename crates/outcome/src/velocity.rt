@@ -11,13 +11,16 @@ use crate::Function;
 use crate::checks::check_output;
 use crate::checks::check_start;
 use crate::roots::check_figures;
+use crate::roots::no_accelerations;
 use crate::roots::velocity_root;
-use crate::solve::solve_velocity;
+use crate::solve::solve_inverse;
 use model::BaseState;
 use model::Checked;
 use model::RootMode;
 use model::lists::check_list;
 use model::number_of;
+use spatial::tables::zero_wrenches;
+use sweeps::inverse::inverse_dynamics_outward;
 
 // Over lent tables, for callers who hold a model's, the positions' and those that the kernel works in: a refusal's number with the
 // output as found, or the figures.
@@ -43,7 +46,26 @@ pub fn velocity_product_forces_lent<'a>(
     requires { ⌜ Sized (lent (now links) (now joints) (now kinds) (now parents) (now numbers)) × (length (now shapes) ≡ 63) × (length (now poses) ≡ 126) × (length (now frames) ≡ 441) × (length (now motions) ≡ 576) × (length (now sums) ≡ 384) ⌝ }
     ensures { λ r. ⌜ told r (now (output .exit)) ≡ outcome (lentCall Function.VelocityProduct mode (lent (now (links .entry)) (now (joints .entry)) (now (kinds .entry)) (now (parents .entry)) (now (numbers .entry))) count moving base (posesIn (now (shapes .entry)) (now (poses .entry))) entries (now (speeds .entry)) [] startSums) (now (output .entry)) ⌝ }
 {
+    let root = velocity_root(mode, base);
+    let accelerations = no_accelerations();
+    let passed = inverse_dynamics_outward(
+        links,
+        joints,
+        kinds,
+        parents,
+        numbers,
+        count,
+        moving,
+        root,
+        shapes,
+        poses,
+        speeds,
+        &accelerations,
+        frames,
+        motions,
+    );
     let begun = check_start(
+        passed,
         links,
         joints,
         kinds,
@@ -67,8 +89,8 @@ pub fn velocity_product_forces_lent<'a>(
     let Checked::Good = length else {
         return number_of(length);
     };
-    let root = velocity_root(mode, base);
-    solve_velocity(
+    zero_wrenches(sums, count);
+    solve_inverse(
         mode,
         links,
         joints,
@@ -79,8 +101,6 @@ pub fn velocity_product_forces_lent<'a>(
         moving,
         base.frame.rotation,
         root,
-        poses,
-        speeds,
         frames,
         motions,
         sums,

@@ -4,8 +4,6 @@ ghost use mathlib.Core.Path.{_≡_};
 ghost use Rattle.loads.specs.Sums.{flatSums, preparedSums};
 ghost use Rattle.outcome.specs.Call.{callOf};
 ghost use Rattle.outcome.specs.Outcome.{outcome, told};
-use dynamics::work::no_frames;
-use dynamics::work::no_gravities;
 use loads::Load;
 use loads::LoadSums;
 use loads::sums::flat_sums;
@@ -18,6 +16,8 @@ use model::RootMode;
 use outcome::Function;
 use outcome::gravity::gravity_lent;
 use outcome::poses::pose_tables;
+use sweeps::work::no_frames;
+use sweeps::work::no_gravities;
 
 // Over load sums already worked out.
 pub fn gravity_core(

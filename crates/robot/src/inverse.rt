@@ -3,8 +3,6 @@ ghost use mathlib.Core.Path.{_≡_};
 ghost use Rattle.loads.specs.Sums.{flatSums, preparedSums};
 ghost use Rattle.outcome.specs.Call.{callOf};
 ghost use Rattle.outcome.specs.Outcome.{outcome, told};
-use dynamics::work::no_frames;
-use dynamics::work::no_motions;
 use loads::Load;
 use loads::LoadSums;
 use loads::sums::flat_sums;
@@ -17,6 +15,8 @@ use model::RootMode;
 use outcome::Function;
 use outcome::inverse::inverse_dynamics_lent;
 use outcome::poses::pose_tables;
+use sweeps::work::no_frames;
+use sweeps::work::no_motions;
 
 // Over load sums already worked out.
 pub fn inverse_dynamics_core<'a>(

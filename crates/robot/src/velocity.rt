@@ -4,8 +4,6 @@ ghost use mathlib.Core.Path.{_≡_};
 ghost use Rattle.loads.specs.Sums.{startSums};
 ghost use Rattle.outcome.specs.Call.{callOf};
 ghost use Rattle.outcome.specs.Outcome.{outcome, told};
-use dynamics::work::no_frames;
-use dynamics::work::no_motions;
 use loads::sums::no_sums;
 use model::BaseState;
 use model::Model;
@@ -14,6 +12,8 @@ use model::RootMode;
 use outcome::Function;
 use outcome::poses::pose_tables;
 use outcome::velocity::velocity_product_forces_lent;
+use sweeps::work::no_frames;
+use sweeps::work::no_motions;
 
 // No loads and no accelerations.
 pub fn velocity_product_forces<'a>(

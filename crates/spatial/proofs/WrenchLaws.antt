@@ -1,18 +1,17 @@
--- The wrenches of 64 links in a table: one read, one stored, all zero.
-use Prim.Native.Nat.{ℕ, _+_, _*_, _<_}
+-- The wrenches of 64 links in a table: one read, one stored, the first ones zero.
+use Prim.Native.Nat.{ℕ, _+_, _*_, _<_, _≤_}
 use mathlib.Core.Path.{_≡_, refl, sym, _∙_}
 use mathlib.Core.List.{List, [], _∷_}
 use mathlib.Core.Logic.{inl, inr, ⊎-elim}
 use native.Mathlib.Omega.{arith}
 use lib.Ieee.{Float, nan}
-use lib.ListN.{length, getD, set, replicate, getD-replicate}
-use lib.Seq.{getD-set-same, getD-set-other, ext-getD}
+use lib.ListN.{length, getD, set}
+use lib.Seq.{getD-set-same, getD-set-other}
 use Rattle.spatial.specs.declared.Wrench.{Wrench}
 use Rattle.spatial.specs.Past.{noWrench}
 use Rattle.spatial.specs.Constants.{plusZero, zeroVector, zeroWrench}
 use Rattle.spatial.specs.Tables.{wrenchAt, wrenchesIn, write}
 use Rattle.spatial.proofs.BoolLaws.{lt-or-ge, same-or-not}
-use Rattle.spatial.proofs.ListedLaws.{length-listOf}
 use Rattle.spatial.proofs.TableLaws.{listed-at, listed-set, write-same, write-other}
 
 pub read : (s : List Float) (i : ℕ) → i < 64 → wrenchAt s i ≡ getD (wrenchesIn s) i noWrench
@@ -40,7 +39,7 @@ module _ (s : List Float) (i : ℕ) (w : Wrench) (h : i < 64) (long : length s �
   pub stored : wrenchesIn (write s (6 * i) (six w)) ≡ set (wrenchesIn s) i w
   stored = listed-set 64 (wrenchAt s) (wrenchAt (write s (6 * i) (six w))) i w h wrench-new (λ j l d. wrench-old j d)
 
--- ---- a table of zeros
+-- ---- zeros at the front of a table
 
 -- the first n numbers
 abbrev pub Zeros : ℕ → List Float → Type 0
@@ -49,11 +48,9 @@ Zeros n s = (p : ℕ) → p < n → getD s p nan ≡ plusZero
 pub zeros-more : (n : ℕ) (s : List Float) → length s ≡ 384 → n < 384 → Zeros n s → Zeros (n + 1) (set s n plusZero)
 zeros-more n s long h z p l = ⊎-elim (λ e. rw e (getD-set-same s n plusZero nan (omega arith))) (λ d. getD-set-other s n p plusZero nan d ∙ z p (omega (arith, l, d))) (same-or-not p n)
 
-wrench-zero : (s : List Float) (i : ℕ) → Zeros 384 s → i < 64 → wrenchAt s i ≡ zeroWrench
+wrench-zero : (s : List Float) (n i : ℕ) → Zeros n s → 6 * i + 6 ≤ n → wrenchAt s i ≡ zeroWrench
 unfolding wrenchAt zeroWrench zeroVector
-wrench-zero s i z l = rw (z (6 * i) (omega arith), z (6 * i + 1) (omega arith), z (6 * i + 2) (omega arith), z (6 * i + 3) (omega arith), z (6 * i + 4) (omega arith), z (6 * i + 5) (omega arith))
+wrench-zero s n i z l = rw (z (6 * i) (omega arith), z (6 * i + 1) (omega arith), z (6 * i + 2) (omega arith), z (6 * i + 3) (omega arith), z (6 * i + 4) (omega arith), z (6 * i + 5) (omega arith))
 
-pub zeroed : (s : List Float) → Zeros 384 s → wrenchesIn s ≡ replicate 64 zeroWrench
-zeroed s z =
-    ext-getD noWrench (wrenchesIn s) (replicate 64 zeroWrench) (length-listOf 64 (wrenchAt s))
-    (λ i l. let k : i < 64 = omega (arith, l, length-listOf 64 (wrenchAt s)) in listed-at 64 (wrenchAt s) i noWrench k ∙ wrench-zero s i z k ∙ sym (getD-replicate 64 i zeroWrench noWrench k))
+pub zeroed : (s : List Float) (count : ℕ) → count ≤ 64 → Zeros (count * 6) s → (i : ℕ) → i < count → getD (wrenchesIn s) i noWrench ≡ zeroWrench
+zeroed s count h z i l = sym (read s i (omega arith)) ∙ wrench-zero s (count * 6) i z (omega arith)

@@ -1,8 +1,9 @@
 // Wrenches in a lent table, six numbers each: torque, then force.
 ghost use mathlib.Core.Path.{_≡_};
-ghost use Prim.Native.Nat.{_+_, _*_, _<_, _≤_};
-ghost use lib.ListN.{length, set, replicate};
+ghost use Prim.Native.Nat.{ℕ, _+_, _*_, _<_, _≤_};
+ghost use lib.ListN.{length, getD, set};
 ghost use Rattle.spatial.specs.Constants.{zeroWrench};
+ghost use Rattle.spatial.specs.Past.{noWrench};
 ghost use Rattle.spatial.specs.Tables.{wrenchAt, wrenchesIn};
 use crate::Vector3;
 use crate::Wrench;
@@ -41,13 +42,14 @@ pub fn put_wrench(s: &mut [f64], i: usize, w: Wrench)
     s[k + 5] = w.force.z;
 }
 
-// +0 at every link.
-pub fn zero_wrenches(s: &mut [f64])
-    requires { ⌜ length (now s) ≡ 384 ⌝ }
-    ensures { λ _. ⌜ wrenchesIn (now (s .exit)) ≡ replicate 64 zeroWrench ⌝ }
+// +0 at the first links, so many as a model has.
+pub fn zero_wrenches(s: &mut [f64], count: usize)
+    requires { ⌜ (length (now s) ≡ 384) × (count ≤ 64) ⌝ }
+    ensures { λ _. ⌜ ((l : ℕ) → l < count → getD (wrenchesIn (now (s .exit))) l noWrench ≡ zeroWrench) ⌝ }
 {
+    let end = count * 6;
     let mut n = 0;
-    while n < 384 {
+    while n < end {
         s[n] = 0.0;
         n += 1;
     }

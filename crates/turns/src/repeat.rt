@@ -1,7 +1,4 @@
 // Each function called so many times over on a model's lent tables; the last turn's number, 0 after none.
-use dynamics::work::no_frames;
-use dynamics::work::no_gravities;
-use dynamics::work::no_motions;
 use loads::sums::no_sums;
 use loads::sums::sum_indexed_loads;
 use model::BaseState;
@@ -14,6 +11,9 @@ use outcome::gravity::gravity_lent;
 use outcome::inverse::inverse_dynamics_lent;
 use outcome::poses::pose_tables;
 use outcome::velocity::velocity_product_forces_lent;
+use sweeps::work::no_frames;
+use sweeps::work::no_gravities;
+use sweeps::work::no_motions;
 
 pub(crate) fn repeat_inverse<'a>(
     turns: usize,

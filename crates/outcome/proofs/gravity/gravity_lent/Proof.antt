@@ -2,19 +2,19 @@ use borrow.Author.Needs.{needs}
 use mathlib.Core.Path.{_≡_, refl, sym, ap, _∙_}
 use lib.ListN.{length}
 use mathlib.Core.List.{List, []}
-use Rattle.model.specs.Flat.{modelView}
+use Rattle.model.specs.Flat.{tablesOf, modelView}
 use Rattle.model.specs.declared.Checked.the-variants.{Good}
 use Rattle.model.specs.declared.Model.{Model}
 use Rattle.outcome.specs.declared.Function.the-variants.{Gravity}
 use Rattle.outcome.specs.Call.{Call, callOf}
 use Rattle.outcome.specs.Refusal.{startChecked, outputChecked}
 use Rattle.outcome.proofs.OutcomeLaws.{stop-start, stop-output, stop-loads, go-on}
-use native.Mathlib.Omega.{arith}
 use Rattle.model.specs.Good.{GoodModel}
 use Rattle.model.proofs.GoodLaws.{few-moving}
-use Rattle.outcome.proofs.PassedLaws.{model-good, positions-good, output-length}
+use Rattle.outcome.proofs.PassedLaws.{counts-good, model-good, positions-good, output-length}
 use Rattle.outcome.proofs.FigureLaws.{gravity-figures}
 use Rattle.dynamics.specs.Weights.{turned}
+use Rattle.outcome.proofs.OutputLaws.{fit-good}
 use Rattle.outcome.proofs.TableLaws.{tabled}
 use Rattle.model.specs.Poses.{posesIn}
 use Rattle.model.specs.declared.Pose.{Pose}
@@ -43,17 +43,26 @@ abbrev call : tie.Start → Call
 call s = callOf Gravity (s .args .mode) (model s) (s .args .base) (positions s) (s .args .entries) [] [] (record { number = s .args .refused; sums = wrenchesIn (s .args .sums .now) })
 
 -- what each check that passed shows
-started : (a : tie.After-enum-told) → (let s = a .before .before .before .before .before .before .before .before .before .before .before .before .before .before in startChecked (modelView (model s)) (s .args .base) (positions s) (s .args .entries) ≡ Good)
+started : (a : tie.After-enum-told) → (let s = a .before .before .before .before .before .before .before .before .before .before .before .before .before .before .before .before .before .before .before .before .before .before .before in startChecked (modelView (model s)) (s .args .base) (positions s) (s .args .entries) ≡ Good)
 started a = sym (a .before .before .check-start .ensures) ∙ a .enum-told .given .1
 
-good : (a : tie.After-enum-told) → GoodModel (modelView (model (a .before .before .before .before .before .before .before .before .before .before .before .before .before .before)))
+good : (a : tie.After-enum-told) → GoodModel (modelView (model (a .before .before .before .before .before .before .before .before .before .before .before .before .before .before .before .before .before .before .before .before .before .before .before)))
 good a = model-good _ _ _ _ (started a)
 
-placed : (a : tie.After-enum-told2) → (let s = a .before .before .before .before .before .before .before .before .before .before .before .before .before .before .before .before .before in outputChecked (s .args .mode) (s .args .moving) (length (s .args .output .now)) ≡ Good)
+placed : (a : tie.After-enum-told2) → (let s = a .before .before .before .before .before .before .before .before .before .before .before .before .before .before .before .before .before .before .before .before .before .before .before .before .before .before in outputChecked (s .args .mode) (s .args .moving) (length (s .args .output .now)) ≡ Good)
 placed a = sym (a .before .before .check-output .ensures) ∙ a .enum-told2 .given .1
 
+standard-gravity-requires : tie.Need-standard-gravity-requires
+standard-gravity-requires c κs = search needs
+
+turned-requires : tie.Need-turned-requires
+turned-requires c κs = search needs
+
+gravity-outward-requires : tie.Need-gravity-outward-requires
+gravity-outward-requires c κs = let p = c .before .before .before .before .before .before .before .before .before .before .before .before .before .before .before .pre in (p .0, p .1, p .2, p .3, p .4)
+
 check-start-requires : tie.Need-check-start-requires
-check-start-requires c κs = let p = c .before .before .before .before .before .before .before .before .before .before .before .pre in (p .0, p .1, p .2)
+check-start-requires c κs = let p = c .before .before .before .before .before .before .before .before .before .before .before .before .before .before .before .before .before .before .before .before .pre in (p .0, p .1, p .2, c .before .before .before .before .gravity-outward .ensures .0)
 
 enum-told : tie.Need-enum-told
 enum-told c = search needs
@@ -61,8 +70,14 @@ enum-told c = search needs
 number-of-requires : tie.Need-number-of-requires
 number-of-requires c κs = search needs
 
+same-length : tie.Need-same-length
+same-length c = c .before .before .before .before .before .before .before .gravity-outward .kept .1 .1 .1 .1 .1 .1 .1 .1 .1 .1 .0
+
+same-length-2 : tie.Need-same-length-2
+same-length-2 c = c .before .before .before .before .before .before .before .gravity-outward .kept .1 .1 .1 .1 .1 .1 .1 .1 .1 .1 .1 .0
+
 returns : tie.Need-returns
-returns c = stop-start (call (c .before .before .before .before .before .before .before .before .before .before .before .before .before .before)) _ _ _ (c .number-of .ensures) (c .before .match .keys2) (c .before .before .check-start .ensures)
+returns c = stop-start (call (c .before .before .before .before .before .before .before .before .before .before .before .before .before .before .before .before .before .before .before .before .before .before .before)) _ _ _ (c .number-of .ensures) (c .before .match .keys2) (c .before .before .check-start .ensures)
 
 check-output-requires : tie.Need-check-output-requires
 check-output-requires c κs = search needs
@@ -73,75 +88,87 @@ enum-told-2 c = search needs
 number-of-requires-2 : tie.Need-number-of-requires-2
 number-of-requires-2 c κs = search needs
 
+same-length-3 : tie.Need-same-length-3
+same-length-3 c = c .before .before .before .before .before .before .before .before .before .before .gravity-outward .kept .1 .1 .1 .1 .1 .1 .1 .1 .1 .1 .0
+
+same-length-4 : tie.Need-same-length-4
+same-length-4 c = c .before .before .before .before .before .before .before .before .before .before .gravity-outward .kept .1 .1 .1 .1 .1 .1 .1 .1 .1 .1 .1 .0
+
 returns-2 : tie.Need-returns-2
-returns-2 c = stop-output (call (c .before .before .before .before .before .before .before .before .before .before .before .before .before .before .before .before .before)) _ (started (c .before .before .before)) refl refl _ _ (c .number-of2 .ensures) (c .before .match2 .keys2) (c .before .before .check-output .ensures)
+returns-2 c = stop-output (call (c .before .before .before .before .before .before .before .before .before .before .before .before .before .before .before .before .before .before .before .before .before .before .before .before .before .before)) _ (started (c .before .before .before)) refl refl _ _ (c .number-of2 .ensures) (c .before .match2 .keys2) (c .before .before .check-output .ensures)
+
+same-length-5 : tie.Need-same-length-5
+same-length-5 c = c .before .before .before .before .before .before .before .before .before .before .before .gravity-outward .kept .1 .1 .1 .1 .1 .1 .1 .1 .1 .1 .0
+
+same-length-6 : tie.Need-same-length-6
+same-length-6 c = c .before .before .before .before .before .before .before .before .before .before .before .gravity-outward .kept .1 .1 .1 .1 .1 .1 .1 .1 .1 .1 .1 .0
 
 returns-3 : tie.Need-returns-3
-returns-3 c = stop-loads (call (c .before .before .before .before .before .before .before .before .before .before .before .before .before .before .before .before .before .before)) _ (started (c .before .before .before .before)) refl refl (placed (c .before)) _ refl (c .if1 .taken)
-
-standard-gravity-requires : tie.Need-standard-gravity-requires
-standard-gravity-requires c κs = search needs
-
-turned-requires : tie.Need-turned-requires
-turned-requires c κs = search needs
+returns-3 c = stop-loads (call (c .before .before .before .before .before .before .before .before .before .before .before .before .before .before .before .before .before .before .before .before .before .before .before .before .before .before .before)) _ (started (c .before .before .before .before)) refl refl (placed (c .before)) _ refl (c .if1 .taken)
 
 solve-gravity-requires : tie.Need-solve-gravity-requires
 solve-gravity-requires c κs =
-    let s = c .before .before .before .before .before .before .before .before .before .before .before .before .before .before .before .before .before .before .before .before .before .before .before .before in
-    let p = s .pre in
-    let g = good (c .before .before .before .before .before .before .before .before .before .before) in (
+    let s = c .before .before .before .before .before .before .before .before .before .before .before .before .before .before .before .before .before .before .before .before .before .before .before .before .before .before .before .before .before .before .before in
+    let p = s .pre in (
       p .0,
-      g,
-      omega (arith, p .2, few-moving _ g),
-      output-length (s .args .mode) (s .args .moving) (length (s .args .output .now)) (placed (c .before .before .before .before .before .before .before)),
-      p .3,
-      p .4,
-      p .5,
+      good (c .before .before .before .before .before .before .before .before),
+      output-length (s .args .mode) (s .args .moving) (length (s .args .output .now)) (placed (c .before .before .before .before .before)),
+      c .before .before .before .before .before .before .before .before .before .before .before .before .before .before .before .gravity-outward .kept .1 .1 .1 .1 .1 .1 .1 .1 .1 .1 .0 ∙ p .3,
+      c .before .before .before .before .before .before .before .before .before .before .before .before .before .before .before .gravity-outward .kept .1 .1 .1 .1 .1 .1 .1 .1 .1 .1 .1 .0 ∙ p .4,
+      s .pre .5,
     )
 
 check-figures-requires : tie.Need-check-figures-requires
 check-figures-requires c κs = search needs
 
-same-length : tie.Need-same-length
-same-length c = search needs
+same-length-7 : tie.Need-same-length-7
+same-length-7 c = c .before .before .before .before .before .before .before .before .before .before .before .before .before .before .before .before .before .before .before .before .before .before .gravity-outward .kept .1 .1 .1 .1 .1 .1 .1 .1 .1 .1 .0
 
-same-length-2 : tie.Need-same-length-2
-same-length-2 c = search needs
+same-length-8 : tie.Need-same-length-8
+same-length-8 c = c .before .before .before .before .before .before .before .before .before .before .before .before .before .before .before .before .before .before .before .before .before .before .gravity-outward .kept .1 .1 .1 .1 .1 .1 .1 .1 .1 .1 .1 .0
 
-same-length-3 : tie.Need-same-length-3
-same-length-3 c = search needs
+same-length-9 : tie.Need-same-length-9
+same-length-9 c = search needs
 
-same-length-4 : tie.Need-same-length-4
-same-length-4 c = search needs
+same-length-10 : tie.Need-same-length-10
+same-length-10 c = search needs
 
 returns-4 : tie.Need-returns-4
 returns-4 c =
-    let s = c .before .before .before .before .before .before .before .before .before .before .before .before .before .before .before .before .before .before .before .before .before .before .before .before .before .before .before .before .before .before .before .before .before .before .before in
-    let a = c .before .before .before .before .before .before .before .before .before .before .before .before .before .before .before .before .before .before .before .before .before in
-    go-on (call s) (s .args .output .now) (started a) refl refl (placed (c .before .before .before .before .before .before .before .before .before .before .before .before .before .before .before .before .before .before)) (c .before .before .before .before .before .before .before .before .before .before .before .before .before .before .before .before .before .if1 .left) _ _
-    (c .before .before .before .before .before .before .before .before .before .before .solve-gravity .ensures
-    ∙ gravity-figures (model s) (good a) (positions s) (s .args .entries) (positions-good _ _ _ _ (started a)) (s .args .poses .now) (tabled (s .args .shapes .now) (s .args .poses .now) (s .args .moving) (few-moving _ (good a))) (s .args .mode) (s .args .base) (call s .loads) _ (c .before .before .before .before .before .before .before .before .before .before .before .before .before .before .before .turned .ensures ∙ ap (turned (s .args .base .frame .rotation)) (c .before .before .before .before .before .before .before .before .before .before .before .before .before .before .before .before .standard-gravity .ensures)))
+    let s = c .before .before .before .before .before .before .before .before .before .before .before .before .before .before .before .before .before .before .before .before .before .before .before .before .before .before .before .before .before .before .before .before .before .before .before .before .before .before in
+    let a = c .before .before .before .before .before .before .before .before .before .before .before .before .before .before .before in
+    let g = good a in
+    go-on (call s) (s .args .output .now) (started (c .before .before .before .before .before .before .before .before .before .before .before .before .before .before .before)) refl refl (placed (c .before .before .before .before .before .before .before .before .before .before .before .before)) (c .before .before .before .before .before .before .before .before .before .before .before .if1 .left) _ _
+    (c .before .before .before .before .before .before .solve-gravity .ensures (s .args .poses .now) (c .before .before .before .before .before .before .before .before .before .before .before .before .before .before .before .before .before .before .before .before .before .before .gravity-outward .ensures .1 (counts-good (modelView (model s)) g) (fit-good (tablesOf (model s)) (s .args .count) (s .args .moving) [] [] [] [] g))
+    ∙ gravity-figures (model s) g (positions s) (s .args .entries) (positions-good _ _ _ _ (started a)) (s .args .poses .now) (tabled (s .args .shapes .now) (s .args .poses .now) (s .args .moving) (few-moving _ g)) (s .args .mode) (s .args .base) (call s .loads) _ (c .before .before .before .before .before .before .before .before .before .before .before .before .before .before .before .before .before .before .before .before .before .before .before .before .before .turned .ensures ∙ ap (turned (s .args .base .frame .rotation)) (c .before .before .before .before .before .before .before .before .before .before .before .before .before .before .before .before .before .before .before .before .before .before .before .before .before .before .standard-gravity .ensures)))
     (c .check-figures .ensures)
 
 pub gravity-lent-spec : {M : Type 1} → statement M
 gravity-lent-spec =
     tie.close
     (tie.spec
+    standard-gravity-requires
+    turned-requires
+    gravity-outward-requires
     check-start-requires
     enum-told
     number-of-requires
+    same-length
+    same-length-2
     returns
     check-output-requires
     enum-told-2
     number-of-requires-2
-    returns-2
-    returns-3
-    standard-gravity-requires
-    turned-requires
-    solve-gravity-requires
-    check-figures-requires
-    same-length
-    same-length-2
     same-length-3
     same-length-4
+    returns-2
+    same-length-5
+    same-length-6
+    returns-3
+    solve-gravity-requires
+    check-figures-requires
+    same-length-7
+    same-length-8
+    same-length-9
+    same-length-10
     returns-4)

@@ -1,8 +1,8 @@
 use borrow.Author.Needs.{needs}
 use mathlib.Core.Path.{_≡_, refl, sym, _∙_}
 use lib.ListN.{length}
-use mathlib.Core.List.{List}
-use Rattle.model.specs.Flat.{modelView}
+use mathlib.Core.List.{List, []}
+use Rattle.model.specs.Flat.{tablesOf, modelView}
 use Rattle.model.specs.Lists.{listChecked}
 use Rattle.model.specs.declared.Checked.the-variants.{Good}
 use Rattle.model.specs.declared.Model.{Model}
@@ -13,8 +13,9 @@ use Rattle.outcome.proofs.OutcomeLaws.{stop-start, stop-speeds, stop-ac
 use native.Mathlib.Omega.{arith}
 use Rattle.model.specs.Good.{GoodModel}
 use Rattle.model.proofs.GoodLaws.{few-moving}
-use Rattle.outcome.proofs.PassedLaws.{model-good, positions-good, list-length, output-length}
+use Rattle.outcome.proofs.PassedLaws.{counts-good, model-good, positions-good, list-length, output-length}
 use Rattle.outcome.proofs.FigureLaws.{inverse-figures}
+use Rattle.outcome.proofs.OutputLaws.{fit-good}
 use Rattle.outcome.proofs.TableLaws.{tabled}
 use Rattle.model.specs.Poses.{posesIn}
 use Rattle.model.specs.declared.Pose.{Pose}
@@ -43,23 +44,29 @@ abbrev call : tie.Start → Call
 call s = callOf InverseDynamics (s .args .mode) (model s) (s .args .base) (positions s) (s .args .entries) (s .args .speeds .now) (s .args .accelerations .now) (record { number = s .args .refused; sums = wrenchesIn (s .args .sums .now) })
 
 -- what each check that passed shows
-started : (a : tie.After-enum-told) → (let s = a .before .before .before .before .before .before .before .before .before .before .before .before .before .before .before .before in startChecked (modelView (model s)) (s .args .base) (positions s) (s .args .entries) ≡ Good)
+started : (a : tie.After-enum-told) → (let s = a .before .before .before .before .before .before .before .before .before .before .before .before .before .before .before .before .before .before .before .before .before .before .before .before in startChecked (modelView (model s)) (s .args .base) (positions s) (s .args .entries) ≡ Good)
 started a = sym (a .before .before .check-start .ensures) ∙ a .enum-told .given .1
 
-good : (a : tie.After-enum-told) → GoodModel (modelView (model (a .before .before .before .before .before .before .before .before .before .before .before .before .before .before .before .before)))
+good : (a : tie.After-enum-told) → GoodModel (modelView (model (a .before .before .before .before .before .before .before .before .before .before .before .before .before .before .before .before .before .before .before .before .before .before .before .before)))
 good a = model-good _ _ _ _ (started a)
 
-speeded : (a : tie.After-enum-told2) → (let s = a .before .before .before .before .before .before .before .before .before .before .before .before .before .before .before .before .before .before .before in listChecked (s .args .speeds .now) (s .args .moving) ≡ Good)
+speeded : (a : tie.After-enum-told2) → (let s = a .before .before .before .before .before .before .before .before .before .before .before .before .before .before .before .before .before .before .before .before .before .before .before .before .before .before .before in listChecked (s .args .speeds .now) (s .args .moving) ≡ Good)
 speeded a = sym (a .before .before .check-list .ensures) ∙ a .enum-told2 .given .1
 
-accelerated : (a : tie.After-enum-told3) → (let s = a .before .before .before .before .before .before .before .before .before .before .before .before .before .before .before .before .before .before .before .before .before .before in listChecked (s .args .accelerations .now) (s .args .moving) ≡ Good)
+accelerated : (a : tie.After-enum-told3) → (let s = a .before .before .before .before .before .before .before .before .before .before .before .before .before .before .before .before .before .before .before .before .before .before .before .before .before .before .before .before .before .before in listChecked (s .args .accelerations .now) (s .args .moving) ≡ Good)
 accelerated a = sym (a .before .before .check-list2 .ensures) ∙ a .enum-told3 .given .1
 
-placed : (a : tie.After-enum-told4) → (let s = a .before .before .before .before .before .before .before .before .before .before .before .before .before .before .before .before .before .before .before .before .before .before .before .before .before in outputChecked (s .args .mode) (s .args .moving) (length (s .args .output .now)) ≡ Good)
+placed : (a : tie.After-enum-told4) → (let s = a .before .before .before .before .before .before .before .before .before .before .before .before .before .before .before .before .before .before .before .before .before .before .before .before .before .before .before .before .before .before .before .before .before in outputChecked (s .args .mode) (s .args .moving) (length (s .args .output .now)) ≡ Good)
 placed a = sym (a .before .before .check-output .ensures) ∙ a .enum-told4 .given .1
 
+inverse-root-requires : tie.Need-inverse-root-requires
+inverse-root-requires c κs = search needs
+
+inverse-dynamics-outward-requires : tie.Need-inverse-dynamics-outward-requires
+inverse-dynamics-outward-requires c κs = let p = c .before .before .before .before .before .before .before .before .before .before .before .before .before .before .before .before .pre in (p .0, p .1, p .2, p .3, p .4)
+
 check-start-requires : tie.Need-check-start-requires
-check-start-requires c κs = let p = c .before .before .before .before .before .before .before .before .before .before .before .before .before .pre in (p .0, p .1, p .2)
+check-start-requires c κs = let p = c .before .before .before .before .before .before .before .before .before .before .before .before .before .before .before .before .before .before .before .before .before .pre in (p .0, p .1, p .2, c .before .before .before .before .inverse-dynamics-outward .ensures .0)
 
 enum-told : tie.Need-enum-told
 enum-told c = search needs
@@ -67,8 +74,14 @@ enum-told c = search needs
 number-of-requires : tie.Need-number-of-requires
 number-of-requires c κs = search needs
 
+same-length : tie.Need-same-length
+same-length c = c .before .before .before .before .before .before .before .inverse-dynamics-outward .kept .1 .1 .1 .1 .1 .1 .1 .1 .1 .1 .1 .1 .0
+
+same-length-2 : tie.Need-same-length-2
+same-length-2 c = c .before .before .before .before .before .before .before .inverse-dynamics-outward .kept .1 .1 .1 .1 .1 .1 .1 .1 .1 .1 .1 .1 .1 .0
+
 returns : tie.Need-returns
-returns c = stop-start (call (c .before .before .before .before .before .before .before .before .before .before .before .before .before .before .before .before)) _ _ _ (c .number-of .ensures) (c .before .match .keys2) (c .before .before .check-start .ensures)
+returns c = stop-start (call (c .before .before .before .before .before .before .before .before .before .before .before .before .before .before .before .before .before .before .before .before .before .before .before .before)) _ _ _ (c .number-of .ensures) (c .before .match .keys2) (c .before .before .check-start .ensures)
 
 check-list-requires : tie.Need-check-list-requires
 check-list-requires c κs = search needs
@@ -79,8 +92,14 @@ enum-told-2 c = search needs
 number-of-requires-2 : tie.Need-number-of-requires-2
 number-of-requires-2 c κs = search needs
 
+same-length-3 : tie.Need-same-length-3
+same-length-3 c = c .before .before .before .before .before .before .before .before .before .before .inverse-dynamics-outward .kept .1 .1 .1 .1 .1 .1 .1 .1 .1 .1 .1 .1 .0
+
+same-length-4 : tie.Need-same-length-4
+same-length-4 c = c .before .before .before .before .before .before .before .before .before .before .inverse-dynamics-outward .kept .1 .1 .1 .1 .1 .1 .1 .1 .1 .1 .1 .1 .1 .0
+
 returns-2 : tie.Need-returns-2
-returns-2 c = stop-speeds (call (c .before .before .before .before .before .before .before .before .before .before .before .before .before .before .before .before .before .before .before)) _ (started (c .before .before .before)) _ _ (c .number-of2 .ensures) (c .before .match2 .keys2) (c .before .before .check-list .ensures)
+returns-2 c = stop-speeds (call (c .before .before .before .before .before .before .before .before .before .before .before .before .before .before .before .before .before .before .before .before .before .before .before .before .before .before .before)) _ (started (c .before .before .before)) _ _ (c .number-of2 .ensures) (c .before .match2 .keys2) (c .before .before .check-list .ensures)
 
 check-list-requires-2 : tie.Need-check-list-requires-2
 check-list-requires-2 c κs = search needs
@@ -91,8 +110,14 @@ enum-told-3 c = search needs
 number-of-requires-3 : tie.Need-number-of-requires-3
 number-of-requires-3 c κs = search needs
 
+same-length-5 : tie.Need-same-length-5
+same-length-5 c = c .before .before .before .before .before .before .before .before .before .before .before .before .before .inverse-dynamics-outward .kept .1 .1 .1 .1 .1 .1 .1 .1 .1 .1 .1 .1 .0
+
+same-length-6 : tie.Need-same-length-6
+same-length-6 c = c .before .before .before .before .before .before .before .before .before .before .before .before .before .inverse-dynamics-outward .kept .1 .1 .1 .1 .1 .1 .1 .1 .1 .1 .1 .1 .1 .0
+
 returns-3 : tie.Need-returns-3
-returns-3 c = stop-accelerations (call (c .before .before .before .before .before .before .before .before .before .before .before .before .before .before .before .before .before .before .before .before .before .before)) _ (started (c .before .before .before .before .before .before)) (speeded (c .before .before .before)) _ _ (c .number-of3 .ensures) (c .before .match3 .keys2) (c .before .before .check-list2 .ensures)
+returns-3 c = stop-accelerations (call (c .before .before .before .before .before .before .before .before .before .before .before .before .before .before .before .before .before .before .before .before .before .before .before .before .before .before .before .before .before .before)) _ (started (c .before .before .before .before .before .before)) (speeded (c .before .before .before)) _ _ (c .number-of3 .ensures) (c .before .match3 .keys2) (c .before .before .check-list2 .ensures)
 
 check-output-requires : tie.Need-check-output-requires
 check-output-requires c κs = search needs
@@ -103,81 +128,98 @@ enum-told-4 c = search needs
 number-of-requires-4 : tie.Need-number-of-requires-4
 number-of-requires-4 c κs = search needs
 
+same-length-7 : tie.Need-same-length-7
+same-length-7 c = c .before .before .before .before .before .before .before .before .before .before .before .before .before .before .before .before .inverse-dynamics-outward .kept .1 .1 .1 .1 .1 .1 .1 .1 .1 .1 .1 .1 .0
+
+same-length-8 : tie.Need-same-length-8
+same-length-8 c = c .before .before .before .before .before .before .before .before .before .before .before .before .before .before .before .before .inverse-dynamics-outward .kept .1 .1 .1 .1 .1 .1 .1 .1 .1 .1 .1 .1 .1 .0
+
 returns-4 : tie.Need-returns-4
-returns-4 c = stop-output (call (c .before .before .before .before .before .before .before .before .before .before .before .before .before .before .before .before .before .before .before .before .before .before .before .before .before)) _ (started (c .before .before .before .before .before .before .before .before .before)) (speeded (c .before .before .before .before .before .before)) (accelerated (c .before .before .before)) _ _ (c .number-of4 .ensures) (c .before .match4 .keys2) (c .before .before .check-output .ensures)
+returns-4 c = stop-output (call (c .before .before .before .before .before .before .before .before .before .before .before .before .before .before .before .before .before .before .before .before .before .before .before .before .before .before .before .before .before .before .before .before .before)) _ (started (c .before .before .before .before .before .before .before .before .before)) (speeded (c .before .before .before .before .before .before)) (accelerated (c .before .before .before)) _ _ (c .number-of4 .ensures) (c .before .match4 .keys2) (c .before .before .check-output .ensures)
+
+same-length-9 : tie.Need-same-length-9
+same-length-9 c = c .before .before .before .before .before .before .before .before .before .before .before .before .before .before .before .before .before .inverse-dynamics-outward .kept .1 .1 .1 .1 .1 .1 .1 .1 .1 .1 .1 .1 .0
+
+same-length-10 : tie.Need-same-length-10
+same-length-10 c = c .before .before .before .before .before .before .before .before .before .before .before .before .before .before .before .before .before .inverse-dynamics-outward .kept .1 .1 .1 .1 .1 .1 .1 .1 .1 .1 .1 .1 .1 .0
 
 returns-5 : tie.Need-returns-5
-returns-5 c = stop-loads (call (c .before .before .before .before .before .before .before .before .before .before .before .before .before .before .before .before .before .before .before .before .before .before .before .before .before .before)) _ (started (c .before .before .before .before .before .before .before .before .before .before)) (speeded (c .before .before .before .before .before .before .before)) (accelerated (c .before .before .before .before)) (placed (c .before)) _ refl (c .if1 .taken)
-
-inverse-root-requires : tie.Need-inverse-root-requires
-inverse-root-requires c κs = search needs
+returns-5 c = stop-loads (call (c .before .before .before .before .before .before .before .before .before .before .before .before .before .before .before .before .before .before .before .before .before .before .before .before .before .before .before .before .before .before .before .before .before .before)) _ (started (c .before .before .before .before .before .before .before .before .before .before)) (speeded (c .before .before .before .before .before .before .before)) (accelerated (c .before .before .before .before)) (placed (c .before)) _ refl (c .if1 .taken)
 
 solve-inverse-requires : tie.Need-solve-inverse-requires
 solve-inverse-requires c κs =
-    let s = c .before .before .before .before .before .before .before .before .before .before .before .before .before .before .before .before .before .before .before .before .before .before .before .before .before .before .before .before .before .before .before in
-    let p = s .pre in
-    let g = good (c .before .before .before .before .before .before .before .before .before .before .before .before .before .before .before) in (
+    let s = c .before .before .before .before .before .before .before .before .before .before .before .before .before .before .before .before .before .before .before .before .before .before .before .before .before .before .before .before .before .before .before .before .before .before .before .before .before .before in
+    let p = s .pre in (
       p .0,
-      g,
-      omega (arith, p .2, few-moving _ g),
-      omega (arith, list-length _ _ (speeded (c .before .before .before .before .before .before .before .before .before .before .before .before))),
-      omega (arith, list-length _ _ (accelerated (c .before .before .before .before .before .before .before .before .before))),
-      output-length (s .args .mode) (s .args .moving) (length (s .args .output .now)) (placed (c .before .before .before .before .before .before)),
-      p .3,
-      p .4,
-      p .5,
+      good (c .before .before .before .before .before .before .before .before .before .before .before .before .before .before),
+      output-length (s .args .mode) (s .args .moving) (length (s .args .output .now)) (placed (c .before .before .before .before .before)),
+      c .before .before .before .before .before .before .before .before .before .before .before .before .before .before .before .before .before .before .before .before .before .inverse-dynamics-outward .kept .1 .1 .1 .1 .1 .1 .1 .1 .1 .1 .1 .1 .0 ∙ p .3,
+      c .before .before .before .before .before .before .before .before .before .before .before .before .before .before .before .before .before .before .before .before .before .inverse-dynamics-outward .kept .1 .1 .1 .1 .1 .1 .1 .1 .1 .1 .1 .1 .1 .0 ∙ p .4,
+      s .pre .5,
     )
 
 check-figures-requires : tie.Need-check-figures-requires
 check-figures-requires c κs = search needs
 
-same-length : tie.Need-same-length
-same-length c = search needs
+same-length-11 : tie.Need-same-length-11
+same-length-11 c = c .before .before .before .before .before .before .before .before .before .before .before .before .before .before .before .before .before .before .before .before .before .before .before .before .before .before .before .before .inverse-dynamics-outward .kept .1 .1 .1 .1 .1 .1 .1 .1 .1 .1 .1 .1 .0
 
-same-length-2 : tie.Need-same-length-2
-same-length-2 c = search needs
+same-length-12 : tie.Need-same-length-12
+same-length-12 c = c .before .before .before .before .before .before .before .before .before .before .before .before .before .before .before .before .before .before .before .before .before .before .before .before .before .before .before .before .inverse-dynamics-outward .kept .1 .1 .1 .1 .1 .1 .1 .1 .1 .1 .1 .1 .1 .0
 
-same-length-3 : tie.Need-same-length-3
-same-length-3 c = search needs
+same-length-13 : tie.Need-same-length-13
+same-length-13 c = search needs
 
-same-length-4 : tie.Need-same-length-4
-same-length-4 c = search needs
+same-length-14 : tie.Need-same-length-14
+same-length-14 c = search needs
 
 returns-6 : tie.Need-returns-6
 returns-6 c =
-    let s = c .before .before .before .before .before .before .before .before .before .before .before .before .before .before .before .before .before .before .before .before .before .before .before .before .before .before .before .before .before .before .before .before .before .before .before .before .before .before .before .before .before .before in
-    let a = c .before .before .before .before .before .before .before .before .before .before .before .before .before .before .before .before .before .before .before .before .before .before .before .before .before .before in
-    go-on (call s) (s .args .output .now) (started a) (speeded (c .before .before .before .before .before .before .before .before .before .before .before .before .before .before .before .before .before .before .before .before .before .before .before)) (accelerated (c .before .before .before .before .before .before .before .before .before .before .before .before .before .before .before .before .before .before .before .before)) (placed (c .before .before .before .before .before .before .before .before .before .before .before .before .before .before .before .before .before)) (c .before .before .before .before .before .before .before .before .before .before .before .before .before .before .before .before .if1 .left) _ _
-    (c .before .before .before .before .before .before .before .before .before .before .solve-inverse .ensures
-    ∙ inverse-figures (model s) (good a) (positions s) (s .args .entries) (positions-good _ _ _ _ (started a)) (s .args .poses .now) (tabled (s .args .shapes .now) (s .args .poses .now) (s .args .moving) (few-moving _ (good a))) (s .args .mode) (s .args .base) (s .args .speeds .now) (s .args .accelerations .now) (call s .loads) _ (c .before .before .before .before .before .before .before .before .before .before .before .before .before .before .before .inverse-root .ensures))
+    let s = c .before .before .before .before .before .before .before .before .before .before .before .before .before .before .before .before .before .before .before .before .before .before .before .before .before .before .before .before .before .before .before .before .before .before .before .before .before .before .before .before .before .before .before .before .before in
+    let a = c .before .before .before .before .before .before .before .before .before .before .before .before .before .before .before .before .before .before .before .before .before in
+    let g = good a in
+    go-on (call s) (s .args .output .now) (started (c .before .before .before .before .before .before .before .before .before .before .before .before .before .before .before .before .before .before .before .before .before)) (speeded (c .before .before .before .before .before .before .before .before .before .before .before .before .before .before .before .before .before .before)) (accelerated (c .before .before .before .before .before .before .before .before .before .before .before .before .before .before .before)) (placed (c .before .before .before .before .before .before .before .before .before .before .before .before)) (c .before .before .before .before .before .before .before .before .before .before .before .if1 .left) _ _
+    (c .before .before .before .before .before .before .solve-inverse .ensures (s .args .poses .now) (s .args .speeds .now) (s .args .accelerations .now) (c .before .before .before .before .before .before .before .before .before .before .before .before .before .before .before .before .before .before .before .before .before .before .before .before .before .before .before .before .inverse-dynamics-outward .ensures .1 (counts-good (modelView (model s)) g) (fit-good (tablesOf (model s)) (s .args .count) (s .args .moving) [] [] [] [] g) (omega (arith, list-length _ _ (speeded (c .before .before .before .before .before .before .before .before .before .before .before .before .before .before .before .before .before .before)))) (omega (arith, list-length _ _ (accelerated (c .before .before .before .before .before .before .before .before .before .before .before .before .before .before .before)))))
+    ∙ inverse-figures (model s) g (positions s) (s .args .entries) (positions-good _ _ _ _ (started a)) (s .args .poses .now) (tabled (s .args .shapes .now) (s .args .poses .now) (s .args .moving) (few-moving _ g)) (s .args .mode) (s .args .base) (s .args .speeds .now) (s .args .accelerations .now) (call s .loads) _ (c .before .before .before .before .before .before .before .before .before .before .before .before .before .before .before .before .before .before .before .before .before .before .before .before .before .before .before .before .before .before .before .inverse-root .ensures))
     (c .check-figures .ensures)
 
 pub inverse-dynamics-lent-spec : {M : Type 1} → statement M
 inverse-dynamics-lent-spec =
     tie.close
     (tie.spec
+    inverse-root-requires
+    inverse-dynamics-outward-requires
     check-start-requires
     enum-told
     number-of-requires
+    same-length
+    same-length-2
     returns
     check-list-requires
     enum-told-2
     number-of-requires-2
+    same-length-3
+    same-length-4
     returns-2
     check-list-requires-2
     enum-told-3
     number-of-requires-3
+    same-length-5
+    same-length-6
     returns-3
     check-output-requires
     enum-told-4
     number-of-requires-4
+    same-length-7
+    same-length-8
     returns-4
+    same-length-9
+    same-length-10
     returns-5
-    inverse-root-requires
     solve-inverse-requires
     check-figures-requires
-    same-length
-    same-length-2
-    same-length-3
-    same-length-4
+    same-length-11
+    same-length-12
+    same-length-13
+    same-length-14
     returns-6)

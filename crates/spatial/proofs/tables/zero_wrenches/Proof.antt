@@ -9,13 +9,16 @@ use Rattle.spatial.proofs.tables.zero_wrenches.Statement.{statement}
 use Rattle.spatial.proofs.tables.zero_wrenches.Tie as tie
 
 abbrev Inv-loop : tie.InvT-loop
-Inv-loop s₀ n₀ s n = (n ≤ 384) × (length s ≡ 384) × Zeros n s
+Inv-loop s₀ count end n₀ s n = (n ≤ end) × (length s ≡ 384) × Zeros n s
 
 abbrev μ-loop : tie.MeasureT-loop
-μ-loop s₀ n₀ s n = 384 - n
+μ-loop s₀ count end n₀ s n = end - n
+
+mul-end : tie.Need-mul-end Inv-loop μ-loop
+mul-end c = search needs
 
 loop-holds : tie.Need-loop-holds Inv-loop μ-loop
-loop-holds c = (omega arith, c .pre, λ p l. absurd (omega (arith, l)))
+loop-holds c = (omega arith, c .pre .0, λ p l. absurd (omega (arith, l)))
 
 mul-s : tie.Need-mul-s Inv-loop μ-loop
 mul-s c = search needs
@@ -31,13 +34,13 @@ loop-less c = search needs
 
 loop-again : tie.Need-loop-again Inv-loop μ-loop
 unfolding ofBits
-loop-again c = let i = c .before .loop in (search needs, length-set (i .s) (i .n) _ ∙ i .inv .1, zeros-more (i .n) (i .s) (i .inv .1) (c .loop-test .taken) (i .inv .2))
+loop-again c = let i = c .before .loop in (search needs, length-set (i .s) (i .n) _ ∙ i .inv .1, zeros-more (i .n) (i .s) (i .inv .1) (omega arith) (i .inv .2))
 
 same-length : tie.Need-same-length Inv-loop μ-loop
 same-length c = search needs
 
 returns : tie.Need-returns Inv-loop μ-loop
-returns c = let i = c .before .loop in zeroed (i .s) (λ p l. i .inv .2 p (omega (arith, l, c .loop-test .left)))
+returns c = let i = c .before .loop in zeroed (i .s) (c .before .before .args .count) (c .before .before .pre .1) (λ p l. i .inv .2 p (omega (arith, l, c .loop-test .left)))
 
 pub zero-wrenches-spec : {M : Type 1} → statement M
 zero-wrenches-spec =
@@ -45,6 +48,7 @@ zero-wrenches-spec =
     (tie.spec
     Inv-loop
     μ-loop
+    mul-end
     loop-holds
     mul-s
     slice-write-s

@@ -1,0 +1,4 @@
+pub mod WorkLaws
+pub mod StepLaws
+pub mod KernelLaws
+pub mod OutwardLaws
