@@ -1,6 +1,7 @@
 // Framed inputs on standard input, framed answer records on standard output.
-use frames::{answer, answer_room, read_frame};
-use libc::{STDERR_FILENO, STDOUT_FILENO};
+#![tactic(auto)]
+
+use frames::{STDERR_FILENO, STDOUT_FILENO, answer, answer_room, read_frame};
 use wire::write::put_u32;
 
 // One frame; whether all of it was written.

@@ -1,4 +1,6 @@
 // The load buffer.
+#![tactic(auto)]
+
 pub mod agree;
 pub mod value;
 
@@ -6,14 +8,14 @@ use loads::Load;
 use spatial::Wrench;
 
 // What a place of a buffer holds; link 0 and +0 where it is free.
-#[derive(Drop)]
+#[derive(Clone, Copy, Drop)]
 pub struct Stored {
     pub link: usize,
     pub wrench: Wrench,
 }
 
 // At most one load for each of `links` links, `count` of them at the first places; each link's place, or usize::MAX.
-#[derive(Drop)]
+#[derive(Clone, Copy, Drop)]
 pub struct LoadBuffer {
     pub id: u64,
     pub links: usize,
@@ -23,28 +25,28 @@ pub struct LoadBuffer {
 }
 
 // A refusal number, 0 for none, and the buffer after the call.
-#[derive(Drop)]
+#[derive(Clone, Copy, Drop)]
 pub struct Changed {
     pub number: u8,
     pub buffer: LoadBuffer,
 }
 
 // A refusal number, and how many loads a buffer holds.
-#[derive(Drop)]
+#[derive(Clone, Copy, Drop)]
 pub struct Counted {
     pub number: u8,
     pub count: usize,
 }
 
 // A refusal number, and whether a buffer holds no load.
-#[derive(Drop)]
+#[derive(Clone, Copy, Drop)]
 pub struct Emptiness {
     pub number: u8,
     pub empty: bool,
 }
 
 // A refusal number, and a buffer's loads in stored order.
-#[derive(Drop)]
+#[derive(Clone, Copy, Drop)]
 pub struct Listed {
     pub number: u8,
     pub count: usize,
@@ -52,7 +54,7 @@ pub struct Listed {
 }
 
 // Whether a buffer's two tables agree.
-#[derive(Drop)]
+#[derive(Clone, Copy, Drop)]
 pub enum Tables {
     Sound,
     Corrupt,

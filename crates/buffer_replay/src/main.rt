@@ -1,10 +1,11 @@
 // Replays a script of buffer operations and counts the answers that agree with the oracle's.
+#![tactic(auto)]
+
 ghost use Rattle.std.specs.Prelude.{◌<◌, ◌≤◌};
 
 use buffer::value::{add, clear, len, list, new, remove, set};
 use buffer::{Changed, LoadBuffer};
-use frames::read_frame;
-use libc::STDOUT_FILENO;
+use frames::{STDOUT_FILENO, read_frame};
 use loads::Load;
 use spatial::{Vector3, Wrench};
 use wire::read::double;

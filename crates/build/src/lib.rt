@@ -1,4 +1,6 @@
 // Models made by value, so that nobody writes places of a table by hand.
+#![tactic(auto)]
+
 ghost use Rattle.std.specs.Prelude.{◌≡◌, ◌*◌, ◌<◌};
 ghost use Rattle.model.specs.Links.{link_numbers};
 ghost use Rattle.model.specs.Joints.{joint_numbers};

@@ -1,8 +1,9 @@
 // Replays calls of the three functions and counts the answers that agree with the oracle's.
+#![tactic(auto)]
+
 ghost use Rattle.std.specs.Prelude.{◌<◌, ◌≤◌};
 
-use frames::read_frame;
-use libc::STDOUT_FILENO;
+use frames::{STDOUT_FILENO, read_frame};
 use model::{BaseState, Model, Pose, RootMode};
 use robot::gravity::gravity_flat;
 use robot::inverse::inverse_dynamics_flat;

@@ -1,4 +1,6 @@
 // Byte records of models and calls, written into lent tables.
+#![tactic(auto)]
+
 pub mod calls;
 pub mod heads;
 pub mod joints;

@@ -1,8 +1,9 @@
 // One model record and one call record on standard input, one answer record on standard output.
+#![tactic(auto)]
+
 ghost use Rattle.std.specs.Prelude.{◌≡◌, length};
 
-use frames::{answer, answer_room};
-use libc::{STDERR_FILENO, STDIN_FILENO, STDOUT_FILENO};
+use frames::{STDERR_FILENO, STDIN_FILENO, STDOUT_FILENO, answer, answer_room};
 
 // One byte more than the longest two records, so that longer input is seen to be too long.
 fn input_room() -> [u8; 27065]

@@ -1,9 +1,17 @@
 // What the programs share: frames on standard input, and the answer to any bytes.
+#![tactic(auto)]
+
 ghost use Rattle.std.specs.Prelude.{◌≡◌, length};
 ghost use Rattle.io.specs.Counts.{IsPrefixLen};
 
-use libc::STDIN_FILENO;
 use wire::read::u32_at;
+
+// The three files that a program starts with.
+pub const STDIN_FILENO: i32 = 0;
+
+pub const STDOUT_FILENO: i32 = 1;
+
+pub const STDERR_FILENO: i32 = 2;
 
 // The longest answer record: 69 figures.
 pub fn answer_room() -> [u8; 561]

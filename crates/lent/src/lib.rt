@@ -1,4 +1,6 @@
 // The load buffer behind a reference: each call is the one by value, and what it changes is stored back where it stands.
+#![tactic(auto)]
+
 ghost use Rattle.std.specs.Prelude.{◌≡◌, ◌<◌, ◌≤◌, length};
 ghost use Rattle.buffer.specs.Agree.{at};
 ghost use Rattle.loads.specs.Checks.{accepted};

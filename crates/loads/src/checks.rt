@@ -7,6 +7,7 @@ use fit::finite::finite_wrench;
 use spatial::Wrench;
 
 // A link count of 1 to 64.
+#[tactic(auto, unfolding(crate::specs::Checks::link_count))]
 pub fn check_links(n: usize) -> LinkCount
     ensures { result ≡ link_count n }
 {
@@ -19,6 +20,7 @@ pub fn check_links(n: usize) -> LinkCount
 }
 
 // Whether an id and a link are those of a model with the id `own` and so many links.
+#[tactic(auto, unfolding(crate::specs::Checks::link_id))]
 pub fn check_link(own: u64, links: usize, id: u64, link: usize) -> LinkId
     ensures { result ≡ link_id own links id link }
 {
@@ -33,6 +35,7 @@ pub fn check_link(own: u64, links: usize, id: u64, link: usize) -> LinkId
 }
 
 // All six numbers of a wrench.
+#[tactic(auto, unfolding(crate::specs::Checks::finiteness))]
 pub fn check_wrench(w: Wrench) -> Finiteness
     ensures { result ≡ finiteness w }
 {
@@ -44,6 +47,7 @@ pub fn check_wrench(w: Wrench) -> Finiteness
 }
 
 // A load table in three parts: so many ids, links and numbers.
+#[tactic(auto, unfolding(crate::specs::Checks::table_length))]
 pub fn check_table(ids: usize, links: usize, numbers: usize) -> Length
     ensures { result ≡ table_length ids links numbers }
 {
@@ -58,6 +62,7 @@ pub fn check_table(ids: usize, links: usize, numbers: usize) -> Length
 }
 
 // A table of so many places, for so many loads.
+#[tactic(auto, unfolding(crate::specs::Checks::list_length))]
 pub fn check_list(count: usize, places: usize) -> Length
     ensures { result ≡ list_length count places }
 {
@@ -69,6 +74,7 @@ pub fn check_list(count: usize, places: usize) -> Length
 }
 
 // At most 256 loads.
+#[tactic(auto, unfolding(crate::specs::Checks::amount))]
 pub fn check_amount(n: usize) -> Amount
     ensures { result ≡ amount n }
 {

@@ -1,4 +1,6 @@
 // A robot as tables of numbers, and what a good model, base state and pose are.
+#![tactic(auto)]
+
 pub mod bases;
 pub mod joints;
 pub mod links;
@@ -14,14 +16,14 @@ ghost use Rattle.model.specs.Answer.{number_of};
 use spatial::{Frame, Matrix3, Twist, Vector3};
 
 // Mass, centre of mass and the inertia about it, in the link's axes.
-#[derive(Drop)]
+#[derive(Clone, Copy, Drop)]
 pub struct Link {
     pub mass: f64,
     pub center: Vector3,
     pub inertia: Matrix3,
 }
 
-#[derive(Drop)]
+#[derive(Clone, Copy, Drop)]
 pub enum JointType {
     Fixed,
     Revolute,
@@ -29,7 +31,7 @@ pub enum JointType {
 }
 
 // The joint j leads from its parent link to link j + 1. A fixed joint's number is 65535.
-#[derive(Drop)]
+#[derive(Clone, Copy, Drop)]
 pub struct Joint {
     pub kind: JointType,
     pub parent: usize,
@@ -39,7 +41,7 @@ pub struct Joint {
 }
 
 // The tables in the order of the model record: 13 numbers a link, 10 a joint. Kinds: 0 fixed, 1 revolute, 2 prismatic.
-#[derive(Drop)]
+#[derive(Clone, Copy, Drop)]
 pub struct Model {
     pub id: u64,
     pub count: usize,
@@ -52,7 +54,7 @@ pub struct Model {
 }
 
 // The root link's pose and motion in the world.
-#[derive(Drop)]
+#[derive(Clone, Copy, Drop)]
 pub struct BaseState {
     pub frame: Frame,
     pub velocity: Twist,
@@ -60,20 +62,20 @@ pub struct BaseState {
 }
 
 // A half-angle pair (sine, cosine) of a revolute joint, or a prismatic joint's distance.
-#[derive(Drop)]
+#[derive(Clone, Copy, Drop)]
 pub enum Pose {
     Half(f64, f64),
     Slide(f64),
 }
 
-#[derive(Drop)]
+#[derive(Clone, Copy, Drop)]
 pub enum RootMode {
     Fixed,
     Floating,
 }
 
 // What a check answers.
-#[derive(Drop)]
+#[derive(Clone, Copy, Drop)]
 pub enum Checked {
     Good,
     InvalidModel,

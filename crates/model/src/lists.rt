@@ -6,6 +6,7 @@ use crate::Checked;
 use fit::finite::finite_numbers;
 
 // m numbers, all finite.
+#[tactic(auto, unfolding(crate::specs::Lists::list_checked))]
 pub fn check_list(list: &[f64], m: usize) -> Checked
     ensures { result ≡ list_checked list.now m }
 {

@@ -2,12 +2,8 @@
 use Prim.Native.Nat.{ℕ}
 use mathlib.Core.List.{List, [], ◌∷◌}
 use mathlib.Core.Path.{◌≡◌, refl, ap, ◌∙◌}
-use mathlib.Core.Logic.{inl, inr}
 use native.Mathlib.Omega.{arith}
 use lib.Ieee.{Float}
-use types.Run.{OneOf}
-use denote.Enum.Declared.{tag_of}
-use Rattle.model.specs.contracts.Checked.{the_type}
 use Rattle.model.specs.Answer.{or_else}
 use Rattle.model.specs.declared.Checked.{Checked}
 use Rattle.model.specs.declared.Checked.TheVariants.{Good, InvalidModel, InvalidBaseState, WrongLength, InvalidPose, NonFiniteInput}
@@ -23,14 +19,10 @@ use Rattle.outcome.specs.Refusal.{start_checked}
 
 -- as code tells a case that is not the first
 abbrev pub Refused : Checked → Type 0
-Refused a = OneOf (1 ∷ 2 ∷ 3 ∷ 4 ∷ 5 ∷ []) (tag_of the_type a)
+Refused a = a ≡ Good → ⊥
 
 pub not_good : Refused Good → ⊥
-not_good (inl e) = omega arith
-not_good (inr (inl e)) = omega arith
-not_good (inr (inr (inl e))) = omega arith
-not_good (inr (inr (inr (inl e)))) = omega arith
-not_good (inr (inr (inr (inr e)))) = omega arith
+not_good h = h refl
 
 pub kept : (a next : Checked) → Refused a → a ≡ or_else a next
 kept Good next h = absurd (not_good h)

@@ -163,7 +163,7 @@ module _ (c : Call) (found : List Float) where
   pushed t = accelerations_good c c.function t.accelerations
 
   at_output : OutputTurn c → (places ≡ output_length c.mode c.model.moving → ⊥) → number ≡ 3
-  at_output t n = numbered 3 found (stop_output c found (begun t.before) (fast t.before) (pushed t) WrongLength 3 refl (inr (inr (inl refl))) (rw (ne_eqb places (output_length c.mode c.model.moving) n)))
+  at_output t n = numbered 3 found (stop_output c found (begun t.before) (fast t.before) (pushed t) WrongLength 3 refl (λ r. cc) (rw (ne_eqb places (output_length c.mode c.model.moving) n)))
 
   roomy : LoadsTurn c places → output_checked c.mode c.model.moving places ≡ Good
   roomy t = rw (eq-eqb places (output_length c.mode c.model.moving) t.output)
@@ -184,30 +184,30 @@ module _ (c : Call) (found : List Float) where
   infinite n t f =
       let h = one_holder c.model t.before.before.model n t.inside in
       let e : checked_at c n ≡ NonFiniteInput = at_holder c t.before.before n h.0 h.1 ∙ rw f in
-      at_start NonFiniteInput (inr (inr (inr (inr refl)))) (sym e ∙ sym (entry_turn c n t (rw e (inr (inr (inr (inr refl)))))))
+      at_start NonFiniteInput (λ r. cc) (sym e ∙ sym (entry_turn c n t (rw e (λ r. cc))))
 
   unfit : Four c → number ≡ 4
   unfolding pose_checked
   unfit w =
       let e : checked_at c w.at ≡ InvalidPose = at_holder c w.turn.before.before w.at w.joint w.holds ∙ rw (w.finite, w.broken) in
-      at_start InvalidPose (inr (inr (inr (inl refl)))) (sym e ∙ sym (entry_turn c w.at w.turn (rw e (inr (inr (inr (inl refl)))))))
+      at_start InvalidPose (λ r. cc) (sym e ∙ sym (entry_turn c w.at w.turn (rw e (λ r. cc))))
 
   decided : (n : ℕ) → When n → number ≡ n
   decided zero w = at_figures w.turn 0 (rw w.finite)
   decided (suc zero) w =
-      at_start InvalidModel (inl refl) (start_model _ _ _ _ InvalidModel (rw (denied (good_model c.model) (λ e. w (good_says c.model e)))) (inl refl))
+      at_start InvalidModel (λ r. cc) (start_model _ _ _ _ InvalidModel (rw (denied (good_model c.model) (λ e. w (good_says c.model e)))) (λ r. cc))
   decided (suc (suc zero)) w =
-      at_start InvalidBaseState (inr (inl refl))
-      (start_base _ _ _ _ InvalidBaseState (rw (says_good c.model w.model)) (rw (denied (good_base c.base) (λ e. w.base (base_says c.base e)))) (inr (inl refl)))
-  decided (suc (suc (suc zero))) (Three.positions t n) = at_start WrongLength (inr (inr (inl refl))) (wrong_length _ _ _ _ n ∙ sym (positions_turn c t))
-  decided (suc (suc (suc zero))) (Three.speeds t k n) = at_speeds t k WrongLength (inr (inr (inl refl))) (list_wrong _ _ n)
-  decided (suc (suc (suc zero))) (Three.accelerations t k n) = at_accelerations t k WrongLength (inr (inr (inl refl))) (list_wrong _ _ n)
+      at_start InvalidBaseState (λ r. cc)
+      (start_base _ _ _ _ InvalidBaseState (rw (says_good c.model w.model)) (rw (denied (good_base c.base) (λ e. w.base (base_says c.base e)))) (λ r. cc))
+  decided (suc (suc (suc zero))) (Three.positions t n) = at_start WrongLength (λ r. cc) (wrong_length _ _ _ _ n ∙ sym (positions_turn c t))
+  decided (suc (suc (suc zero))) (Three.speeds t k n) = at_speeds t k WrongLength (λ r. cc) (list_wrong _ _ n)
+  decided (suc (suc (suc zero))) (Three.accelerations t k n) = at_accelerations t k WrongLength (λ r. cc) (list_wrong _ _ n)
   decided (suc (suc (suc zero))) (Three.output t n) = at_output t n
   decided (suc (suc (suc zero))) (Three.loads g) = at_loads 2 g
   decided (suc (suc (suc (suc zero)))) w = unfit w
   decided (suc (suc (suc (suc (suc zero))))) (Five.position n t f) = infinite n t f
-  decided (suc (suc (suc (suc (suc zero))))) (Five.speed t k e f) = at_speeds t k NonFiniteInput (inr (inr (inr (inr refl)))) (list_infinite _ _ e f)
-  decided (suc (suc (suc (suc (suc zero))))) (Five.acceleration t k e f) = at_accelerations t k NonFiniteInput (inr (inr (inr (inr refl)))) (list_infinite _ _ e f)
+  decided (suc (suc (suc (suc (suc zero))))) (Five.speed t k e f) = at_speeds t k NonFiniteInput (λ r. cc) (list_infinite _ _ e f)
+  decided (suc (suc (suc (suc (suc zero))))) (Five.acceleration t k e f) = at_accelerations t k NonFiniteInput (λ r. cc) (list_infinite _ _ e f)
   decided (suc (suc (suc (suc (suc zero))))) (Five.load g) = at_loads 4 g
   decided (suc (suc (suc (suc (suc (suc zero)))))) w = at_loads 5 w
   decided (suc (suc (suc (suc (suc (suc (suc zero))))))) w = at_loads 6 w

@@ -1,4 +1,6 @@
 // What a call comes to: its refusal or its figures, over a model's lent tables and in 01's order.
+#![tactic(auto)]
+
 pub mod checks;
 pub mod gravity;
 pub mod inverse;
@@ -8,7 +10,7 @@ pub mod solve;
 pub mod velocity;
 
 // What is asked of a robot.
-#[derive(Drop)]
+#[derive(Clone, Copy, Drop)]
 pub enum Function {
     InverseDynamics,
     Gravity,
@@ -16,7 +18,7 @@ pub enum Function {
 }
 
 // Positions as the kernels read them: a code an entry, 0 of a pair and 1 of a distance, and two numbers an entry.
-#[derive(Drop)]
+#[derive(Clone, Copy, Drop)]
 pub struct PoseTables {
     pub shapes: [u8; 63],
     pub poses: [f64; 126],

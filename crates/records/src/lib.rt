@@ -1,4 +1,6 @@
 // Byte records: any bytes are read, asked of the library and answered by bytes.
+#![tactic(auto)]
+
 pub mod answer;
 pub mod answers;
 pub mod ask;
@@ -7,7 +9,7 @@ pub mod laid;
 pub mod models;
 
 // Whether a byte record keeps its layout.
-#[derive(Drop)]
+#[derive(Clone, Copy, Drop)]
 pub enum Layout {
     Kept,
     Broken,

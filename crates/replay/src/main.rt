@@ -1,8 +1,9 @@
 // Replays the fixed list of records and counts, by refusal number, the answers that agree with the oracle's.
+#![tactic(auto)]
+
 ghost use Rattle.std.specs.Prelude.{◌≤◌};
 
-use frames::{answer, answer_room, read_frame};
-use libc::STDOUT_FILENO;
+use frames::{STDOUT_FILENO, answer, answer_room, read_frame};
 
 // How many cases there were, by the refusal number of the oracle's answer, and how many answers are its bytes.
 #[derive(Drop)]

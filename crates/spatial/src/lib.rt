@@ -1,11 +1,13 @@
 // Small records of doubles, with the plain functions over them that 01 names in "The float steps".
+#![tactic(auto)]
+
 pub mod constants;
 pub mod rotations;
 pub mod tables;
 pub mod vectors;
 pub mod wrenches;
 
-#[derive(Drop)]
+#[derive(Clone, Copy, Drop)]
 pub struct Vector3 {
     pub x: f64,
     pub y: f64,
@@ -13,7 +15,7 @@ pub struct Vector3 {
 }
 
 // w, then the vector part.
-#[derive(Drop)]
+#[derive(Clone, Copy, Drop)]
 pub struct Quaternion {
     pub w: f64,
     pub i: f64,
@@ -22,7 +24,7 @@ pub struct Quaternion {
 }
 
 // Three rows.
-#[derive(Drop)]
+#[derive(Clone, Copy, Drop)]
 pub struct Matrix3 {
     pub x: Vector3,
     pub y: Vector3,
@@ -30,20 +32,20 @@ pub struct Matrix3 {
 }
 
 // A velocity or an acceleration of a body.
-#[derive(Drop)]
+#[derive(Clone, Copy, Drop)]
 pub struct Twist {
     pub angular: Vector3,
     pub linear: Vector3,
 }
 
-#[derive(Drop)]
+#[derive(Clone, Copy, Drop)]
 pub struct Wrench {
     pub torque: Vector3,
     pub force: Vector3,
 }
 
 // Where a child's axes stand in its parent's.
-#[derive(Drop)]
+#[derive(Clone, Copy, Drop)]
 pub struct Frame {
     pub rotation: Quaternion,
     pub translation: Vector3,

@@ -1,4 +1,6 @@
 // A call made many times over, for a driver that measures it.
+#![tactic(auto)]
+
 ghost use Rattle.records.specs.Layout.{LaidBytes};
 ghost use Rattle.records.specs.Reading.{Readable};
 

@@ -51,11 +51,14 @@ pub fn size_at(s: &[u8], at: usize) -> usize
     u16_at(s, at) as usize
 }
 
+// The bits of +infinity: what lies above, the sign apart, is a NaN.
+const INFINITY: u64 = 9218868437227405312;
+
 // The double of a bit pattern; every NaN pattern gives a NaN.
 pub fn double(bits: u64) -> f64
     ensures { result ≡ of_bits binary64 bits }
 {
-    if bits % 9223372036854775808 > 9218868437227405312 {
+    if bits % 9223372036854775808 > INFINITY {
         return 0.0 / 0.0;
     }
     f64::from_bits(bits)

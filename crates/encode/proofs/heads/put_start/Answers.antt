@@ -1,0 +1,9 @@
+use mathlib.Core.Path.{refl}
+use Rattle.wire.specs.Big.{bytes32, bytes16}
+use Rattle.wire.proofs.PlacedLaws.{placed_then}
+use Rattle.encode.specs.Calls.{call_start}
+use Rattle.encode.proofs.heads.put_start.Goals as goal
+
+pub returns : goal.returns
+unfolding call_start bytes32 bytes16
+returns c = placed_then _ _ _ _ _ _ _ (placed_then _ _ _ _ _ _ _ (placed_then _ _ _ _ _ _ _ (placed_then _ _ _ _ _ _ _ c.put_u32.ensures c.put_u8.ensures refl) c.put_u8-2.ensures refl) c.put_u8-3.ensures refl) c.put_u8-4.ensures refl

@@ -1,0 +1,6 @@
+use lib.Ieee.{of_bits}
+use Rattle.outcome.proofs.poses.second_of.Goals as goal
+
+pub returns-in-Slide : goal.returns-in-Slide
+unfolding of_bits
+returns-in-Slide c = rw c.in-Slide.is

@@ -1,0 +1,25 @@
+use Prim.Native.Nat.{◌-◌, ◌<◌}
+use mathlib.Core.List.{[]}
+use mathlib.Core.Path.{◌≡◌}
+use lib.ListN.{get_or, length}
+use Rattle.spatial.specs.Past.{no_vector}
+use Rattle.model.specs.Flat.{lent}
+use Rattle.model.proofs.WalkLaws.{Walked}
+use Rattle.dynamics.specs.Run.{Fit}
+use Rattle.dynamics.specs.Flat.{run_of}
+use Rattle.dynamics.specs.Figures.{gravity_step}
+use Rattle.sweeps.specs.Swept.{Swept}
+use Rattle.sweeps.specs.Work.{frames_in, gravities_in}
+use Rattle.sweeps.proofs.gravity.gravity_outward.Given as goal
+
+abbrev pub invariant-loop-j : goal.invariant-loop-j
+invariant-loop-j l = let t = lent l.links l.joints l.kinds l.parents l.numbers in
+    let run = run_of t l.count l.poses [] [] [] in
+    (l.j < l.count)
+    × (length l.frames ≡ 441)
+    × (length l.gravities ≡ 192)
+    × Walked t l.count l.moving l.shapes l.poses l.good l.zero l.next l.j
+    × (Fit (run_of t l.count [] [] [] []) l.moving → Swept run (get_or (gravities_in l.initial.gravities) 0 no_vector) (gravity_step run) no_vector (frames_in l.frames) (gravities_in l.gravities) l.j)
+
+abbrev pub decreases-loop-j : goal.decreases-loop-j
+decreases-loop-j l = 64 - l.j
