@@ -16,14 +16,14 @@ ghost use Rattle.model.specs.Answer.{number_of};
 use spatial::{Frame, Matrix3, Twist, Vector3};
 
 // Mass, centre of mass and the inertia about it, in the link's axes.
-#[derive(Clone, Copy, Drop)]
+#[derive(Clone, Copy)]
 pub struct Link {
     pub mass: f64,
     pub center: Vector3,
     pub inertia: Matrix3,
 }
 
-#[derive(Clone, Copy, Drop)]
+#[derive(Clone, Copy)]
 pub enum JointType {
     Fixed,
     Revolute,
@@ -31,7 +31,7 @@ pub enum JointType {
 }
 
 // The joint j leads from its parent link to link j + 1. A fixed joint's number is 65535.
-#[derive(Clone, Copy, Drop)]
+#[derive(Clone, Copy)]
 pub struct Joint {
     pub kind: JointType,
     pub parent: usize,
@@ -41,7 +41,7 @@ pub struct Joint {
 }
 
 // The tables in the order of the model record: 13 numbers a link, 10 a joint. Kinds: 0 fixed, 1 revolute, 2 prismatic.
-#[derive(Clone, Copy, Drop)]
+#[derive(Clone, Copy)]
 pub struct Model {
     pub id: u64,
     pub count: usize,
@@ -54,7 +54,7 @@ pub struct Model {
 }
 
 // The root link's pose and motion in the world.
-#[derive(Clone, Copy, Drop)]
+#[derive(Clone, Copy)]
 pub struct BaseState {
     pub frame: Frame,
     pub velocity: Twist,
@@ -62,20 +62,20 @@ pub struct BaseState {
 }
 
 // A half-angle pair (sine, cosine) of a revolute joint, or a prismatic joint's distance.
-#[derive(Clone, Copy, Drop)]
+#[derive(Clone, Copy)]
 pub enum Pose {
     Half(f64, f64),
     Slide(f64),
 }
 
-#[derive(Clone, Copy, Drop)]
+#[derive(Clone, Copy)]
 pub enum RootMode {
     Fixed,
     Floating,
 }
 
 // What a check answers.
-#[derive(Clone, Copy, Drop)]
+#[derive(Clone, Copy)]
 pub enum Checked {
     Good,
     InvalidModel,

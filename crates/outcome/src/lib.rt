@@ -10,7 +10,7 @@ pub mod solve;
 pub mod velocity;
 
 // What is asked of a robot.
-#[derive(Clone, Copy, Drop)]
+#[derive(Clone, Copy)]
 pub enum Function {
     InverseDynamics,
     Gravity,
@@ -18,7 +18,7 @@ pub enum Function {
 }
 
 // Positions as the kernels read them: a code an entry, 0 of a pair and 1 of a distance, and two numbers an entry.
-#[derive(Clone, Copy, Drop)]
+#[derive(Clone, Copy)]
 pub struct PoseTables {
     pub shapes: [u8; 63],
     pub poses: [f64; 126],

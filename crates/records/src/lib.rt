@@ -9,7 +9,7 @@ pub mod laid;
 pub mod models;
 
 // Whether a byte record keeps its layout.
-#[derive(Clone, Copy, Drop)]
+#[derive(Clone, Copy)]
 pub enum Layout {
     Kept,
     Broken,

@@ -7,7 +7,7 @@ pub mod tables;
 pub mod vectors;
 pub mod wrenches;
 
-#[derive(Clone, Copy, Drop)]
+#[derive(Clone, Copy)]
 pub struct Vector3 {
     pub x: f64,
     pub y: f64,
@@ -15,7 +15,7 @@ pub struct Vector3 {
 }
 
 // w, then the vector part.
-#[derive(Clone, Copy, Drop)]
+#[derive(Clone, Copy)]
 pub struct Quaternion {
     pub w: f64,
     pub i: f64,
@@ -24,7 +24,7 @@ pub struct Quaternion {
 }
 
 // Three rows.
-#[derive(Clone, Copy, Drop)]
+#[derive(Clone, Copy)]
 pub struct Matrix3 {
     pub x: Vector3,
     pub y: Vector3,
@@ -32,20 +32,20 @@ pub struct Matrix3 {
 }
 
 // A velocity or an acceleration of a body.
-#[derive(Clone, Copy, Drop)]
+#[derive(Clone, Copy)]
 pub struct Twist {
     pub angular: Vector3,
     pub linear: Vector3,
 }
 
-#[derive(Clone, Copy, Drop)]
+#[derive(Clone, Copy)]
 pub struct Wrench {
     pub torque: Vector3,
     pub force: Vector3,
 }
 
 // Where a child's axes stand in its parent's.
-#[derive(Clone, Copy, Drop)]
+#[derive(Clone, Copy)]
 pub struct Frame {
     pub rotation: Quaternion,
     pub translation: Vector3,
