@@ -28,7 +28,7 @@ pub fn answer(input: &[u8], out: &mut [u8]) -> usize
 }
 
 // Whether a frame was read, and how many bytes it has.
-#[derive(Drop)]
+#[derive(Clone, Copy)]
 pub struct Frame {
     pub found: bool,
     pub length: usize,
