@@ -14,7 +14,7 @@ use Rattle.buffer.specs.declared.Stored.{Stored}
 use Rattle.buffer.specs.declared.LoadBuffer.{LoadBuffer}
 use Rattle.buffer.specs.Agree.{MAX, cleared, no_stored, at, mark, Sized, Agree}
 use Rattle.buffer.specs.Calls.{taken_of, drop_of, stored}
-use Rattle.buffer.specs.Map.{place_of, has, map_remove}
+use Rattle.buffer.specs.Map.{place_of, map_remove}
 use Rattle.spatial.proofs.BoolLaws.{lt_or_ge, same_or_not}
 use Rattle.buffer.proofs.Decided.{here, decided}
 use Rattle.buffer.proofs.MapPut.{long, stored_length, stored_at, not_at, only_at}

@@ -1,10 +1,10 @@
 -- A run of calls answers as the map would.
 use mathlib.Core.Path.{◌≡◌, refl, sym, ap, ◌∙◌}
 use mathlib.Core.Logic.{⊎_elim}
-use mathlib.Core.List.{List, [], ◌∷◌, map}
+use mathlib.Core.List.{List, [], ◌∷◌}
 use Prim.Native.Nat.{ℕ, zero, suc, ◌<◌}
 use native.Mathlib.Omega.{arith}
-use lib.ListN.{length, set, length-set, length-replicate, get_or-replicate}
+use lib.ListN.{length, length-set, length-replicate, get_or-replicate}
 use borrow.Author.Tests.{eq-eqb, ne_eqb, lt-ltb, le-ltb}
 use Rattle.spatial.specs.declared.Wrench.{Wrench}
 use Rattle.buffer.specs.declared.Stored.{Stored}

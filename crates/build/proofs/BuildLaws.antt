@@ -1,26 +1,22 @@
 -- A link or a joint that is set is the one that is read, and the others stay.
-use Prim.Native.Nat.{ℕ, zero, suc, ◌+◌, ◌*◌, ◌-◌, ◌<◌, ◌≤◌}
+use Prim.Native.Nat.{ℕ, zero, suc, ◌+◌, ◌*◌, ◌<◌, ◌≤◌}
 use mathlib.Core.Path.{◌≡◌, refl, sym, ap, ◌∙◌}
-use mathlib.Core.Bool.{Bool, cond}
 use mathlib.Core.List.{List, [], ◌∷◌}
 use mathlib.Core.Logic.{◌⊎◌, inl, inr, ⊎_elim}
 use native.Mathlib.Nat.{add-zero, zero-add, add_assoc}
 use native.Mathlib.Omega.{arith}
-use lib.Dec.{eqb}
 use lib.ListN.{length, get_or, set, length-set}
 use lib.Seq.{get_or-set_same, get_or-set_other}
 use lib.Ieee.{Float, nan}
 use borrow.Author.Tests.{lt-ltb}
-use Rattle.spatial.specs.declared.Vector3.{Vector3}
 use Rattle.model.specs.declared.Link.{Link}
 use Rattle.model.specs.declared.Joint.{Joint}
 use Rattle.model.specs.declared.JointType.{JointType}
 use Rattle.model.specs.declared.JointType.TheVariants.{Fixed, Revolute, Prismatic}
 use Rattle.model.specs.declared.Model.{Model}
-use Rattle.model.specs.View.{View}
 use Rattle.model.specs.Links.{link_numbers}
 use Rattle.model.specs.Joints.{joint_numbers}
-use Rattle.model.specs.Flat.{vector_at, frame_at, link_at, kind_of, joint_at, model_view}
+use Rattle.model.specs.Flat.{vector_at, frame_at, link_at, kind_of, model_view}
 use Rattle.spatial.proofs.BoolLaws.{lt_or_ge}
 use Rattle.build.specs.Build.{pasted, code_of, with_link, with_joint}
 

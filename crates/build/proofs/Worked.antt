@@ -1,7 +1,7 @@
 -- By computation: the models of 01's worked table are good, and for each clause of "good" a model that breaks that clause alone is not.
 use Prim.Native.Nat.{ℕ}
 use mathlib.Core.Bool.{Bool, true, false}
-use mathlib.Core.List.{List, [], ◌∷◌}
+use mathlib.Core.List.{[], ◌∷◌}
 use mathlib.Core.Path.{◌≡◌, refl}
 use lib.ListN.{set, replicate}
 use lib.IntN.{pos}

@@ -1,5 +1,5 @@
 -- What "finite" means of a double and of each record of doubles: one test over the record's numbers in order.
-use Rattle.std.specs.Prelude.{ℕ, Bool, true, false, ◌&&◌, List, [], ◌∷◌, ◌++◌, eqb, Float}
+use Rattle.std.specs.Prelude.{Bool, true, false, ◌&&◌, List, [], ◌∷◌, ◌++◌, eqb, Float}
 use Rattle.std.specs.Float.{nan, inf, fin}
 use Rattle.spatial.specs.declared.Vector3.{Vector3}
 use Rattle.spatial.specs.declared.Quaternion.{Quaternion}

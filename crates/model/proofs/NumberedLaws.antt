@@ -1,15 +1,15 @@
 -- The decision of the moving numbers says the rule, both ways.
 use Prim.Native.Nat.{ℕ, zero, suc, ◌<◌, ◌≤◌}
 use mathlib.Core.Path.{◌≡◌, refl, sym, ap, ◌∙◌}
-use mathlib.Core.Bool.{Bool, true, false, not, cond, ◌&&◌, ◌||◌, false≢true}
-use mathlib.Core.Logic.{◌⊎◌, inl, inr, ⊎_elim}
+use mathlib.Core.Bool.{true, false, not, ◌&&◌, false≢true}
+use mathlib.Core.Logic.{⊎_elim}
 use native.Mathlib.Nat.{eq-or-lt_of_le}
 use native.Mathlib.Omega.{arith}
 use lib.Dec.{eqb, ltb}
 use borrow.Author.Tests.{lt-ltb, ltb-true, eq-eqb, eqb-true, not-true}
 use Rattle.spatial.specs.All.{all}
 use Rattle.spatial.proofs.AllLaws.{all_at, all_if}
-use Rattle.model.specs.Numbers.{Numbering, Holds, Numbered, no_number, holds, taken, numbered_at, numbered, holder_of}
+use Rattle.model.specs.Numbers.{Numbering, Holds, Numbered, holds, taken, numbered_at, numbered, holder_of}
 use Rattle.spatial.proofs.BoolLaws.{and_both, and_left, and_right, by_bool, lt_or_ge, or_cases, or_right}
 use Rattle.model.proofs.Pigeonhole.{pigeonhole}
 

@@ -1,8 +1,7 @@
 -- Laws of the checks' answers: one that is not good stands, whatever follows it.
 use Prim.Native.Nat.{ℕ}
-use mathlib.Core.List.{List, [], ◌∷◌}
+use mathlib.Core.List.{List}
 use mathlib.Core.Path.{◌≡◌, refl, ap, ◌∙◌}
-use native.Mathlib.Omega.{arith}
 use lib.Ieee.{Float}
 use Rattle.model.specs.Answer.{or_else}
 use Rattle.model.specs.declared.Checked.{Checked}
@@ -17,7 +16,7 @@ use Rattle.model.specs.declared.BaseState.{BaseState}
 use Rattle.model.specs.declared.Pose.{Pose}
 use Rattle.outcome.specs.Refusal.{start_checked}
 
--- as code tells a case that is not the first
+-- any answer but Good
 abbrev pub Refused : Checked → Type 0
 Refused a = a ≡ Good → ⊥
 

@@ -14,7 +14,7 @@ use Rattle.loads.specs.Checks.{or_else}
 use Rattle.outcome.specs.Call.{Call}
 use Rattle.outcome.specs.Refusal.{start_checked, speeds_checked, accelerations_checked, output_checked, loads_number, refusal}
 use Rattle.outcome.specs.Figures.{figures}
-use Rattle.outcome.specs.Outcome.{Outcome, told, answered, outcome}
+use Rattle.outcome.specs.Outcome.{told, outcome}
 use Rattle.outcome.proofs.AnswerLaws.{Refused, not_good}
 
 -- a refusal's number is not 0, and stands whatever follows it

@@ -1,11 +1,11 @@
 -- 01's worked table from bytes to bytes: W1 as a record, W8 and W9.
 use Prim.Native.Nat.{ℕ}
 use mathlib.Core.Path.{◌≡◌, refl}
-use mathlib.Core.Bool.{false, true}
+use mathlib.Core.Bool.{false}
 use mathlib.Core.List.{List, [], ◌∷◌, ◌++◌}
 use lib.IntN.{pos}
 use lib.ListN.{replicate}
-use lib.Ieee.{Float, add, fin, le, mul, neg, odd, of_bits, of_fields, size, sub, to_bits}
+use lib.Ieee.{Float, add, fin, le, mul, neg, of_bits, sub, to_bits}
 use Rattle.spatial.specs.All.{all}
 use Rattle.spatial.specs.Constants.{plus_zero, standard_gravity, zero_vector, zero_twist, zero_wrench}
 use Rattle.fit.specs.Finite.{is_finite, all_finite}
@@ -23,7 +23,6 @@ use Rattle.model.specs.Links.{weighs, good_link}
 use Rattle.model.specs.Lists.{list_checked}
 use Rattle.model.specs.Numbers.{taken, numbered_at, numbered, holder_of}
 use Rattle.model.specs.Poses.{pose_checked, first, kind_of_number, positions_checked}
-use Rattle.build.proofs.Worked.{turned}
 use Rattle.loads.specs.Checks.{link_id, finiteness, amount}
 use Rattle.loads.specs.Sums.{start_sums, sum_step, sum_from, load_sums, prepared_sums}
 use Rattle.dynamics.specs.Flat.{value_in}

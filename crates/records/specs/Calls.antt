@@ -5,8 +5,6 @@ use Rattle.spatial.specs.Listed.{list_of}
 use Rattle.spatial.specs.declared.Vector3.{Vector3}
 use Rattle.spatial.specs.declared.Frame.{Frame}
 use Rattle.spatial.specs.declared.Twist.{Twist}
-use Rattle.spatial.specs.declared.Wrench.{Wrench}
-use Rattle.model.specs.declared.Model.{Model}
 use Rattle.model.specs.declared.BaseState.{BaseState}
 use Rattle.model.specs.declared.Pose.{Pose}
 use Rattle.model.specs.declared.Pose.TheVariants.{Half, Slide}

@@ -3,7 +3,7 @@ use Prim.Native.Nat.{ℕ, suc, ◌+◌, ◌≤◌, ◌<◌}
 use native.Mathlib.Omega.{arith}
 use mathlib.Core.Logic.{◌⊎◌, inl, inr, ⊎_elim}
 use mathlib.Core.Path.{◌≡◌, ap, ◌∙◌}
-use Rattle.tree.specs.Tree.{Outward, value_at, Inward, total_of, Kernel, out_of, in_of}
+use Rattle.tree.specs.Tree.{value_at, total_of, Kernel, out_of, in_of}
 use Rattle.tree.specs.Ways.{Above, here, Beyond}
 use Rattle.tree.proofs.SweepLaws.{total_enough}
 use Rattle.tree.proofs.WayLaws.{ordered, low, carried}

@@ -1,9 +1,9 @@
 -- The definition computes: a tree of four joints, each total written down as the list of what it adds, in order.
-use Prim.Native.Nat.{ℕ, zero, suc, ◌+◌}
+use Prim.Native.Nat.{ℕ, ◌+◌}
 use mathlib.Core.Path.{◌≡◌, refl}
 use mathlib.Core.List.{List, [], ◌∷◌, ◌++◌}
 use lib.ListN.{get_or}
-use Rattle.tree.specs.Tree.{climb, value_at, total, total_of, root_sum, Kernel, out_of, in_of}
+use Rattle.tree.specs.Tree.{climb, value_at, total, total_of, root_sum, Kernel, in_of}
 
 -- joints 0 and 1 at the root, 2 and 3 on joint 0; link l's start is 10 + l, and joint j's link adds j, its depth beside it
 abbrev four : Kernel ℕ (List ℕ)

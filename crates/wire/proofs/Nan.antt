@@ -1,6 +1,6 @@
 -- Which bit patterns and which doubles are a NaN's.
 use mathlib.Core.Path.{◌≡◌, refl, ◌∙◌, sym, subst}
-use mathlib.Core.Bool.{true, false, not}
+use mathlib.Core.Bool.{true, not}
 use Prim.Native.Nat.{ℕ, ◌%◌, ◌<◌, ◌≤◌}
 use lib.Dec.{T}
 use lib.Ieee.{Float, nan, inf, fin, binary64, of_bits, nan_bits, is_nan}

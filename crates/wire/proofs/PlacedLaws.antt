@@ -1,9 +1,8 @@
 -- Bytes written one part after another.
-use Prim.Native.Nat.{ℕ, zero, suc, ◌+◌, ◌≤◌}
+use Prim.Native.Nat.{ℕ, suc, ◌+◌, ◌≤◌}
 use mathlib.Core.Path.{◌≡◌, refl, sym, ap, ◌∙◌}
 use mathlib.Core.List.{List, [], ◌∷◌, ◌++◌}
 use native.Mathlib.Nat.{add-zero, not-suc-le-zero, le_of_suc-le-suc}
-use native.Mathlib.Numerals.{add-one}
 use native.Mathlib.Omega.{arith}
 use lib.ListN.{length, drop, set, length-set}
 use Rattle.wire.specs.Placed.{placed}

@@ -1,4 +1,4 @@
-use Rattle.std.proofs.Common.{rules, arith, ◌≡◌, ◌∙◌, ap, sym, refl, length}
+use Rattle.std.proofs.Common.{arith, ◌≡◌, ◌∙◌, refl, length}
 use Rattle.std.proofs.Math.ListN.{length-set}
 use native.Mathlib.Numerals.{add-one}
 use Rattle.buffer.proofs.CallLaws.{placed, list_placed}

@@ -1,7 +1,7 @@
-use Prim.Native.Nat.{◌-◌, ◌<◌}
+use Prim.Native.Nat.{◌<◌}
 use mathlib.Core.Path.{◌≡◌, sym, ◌∙◌}
 use native.Mathlib.Omega.{arith}
-use lib.ListN.{length, length-map}
+use lib.ListN.{length}
 use denote.Struct.Laws as LL
 use Rattle.buffer.specs.contracts.LoadBuffer as B
 use Rattle.buffer.proofs.LoadBuffer.TheLaws as B'

@@ -8,10 +8,10 @@ use Rattle.dynamics.specs.Frames.{joint_frame}
 use Rattle.dynamics.proofs.frames.joint_rotation.Goals as goal
 
 -- a prismatic joint has its origin's rotation
-sliding-turn : (o : Frame) (a : Vector3) (p : Pose) → (joint_frame Prismatic o a p).rotation ≡ o.rotation
+sliding_turn : (o : Frame) (a : Vector3) (p : Pose) → (joint_frame Prismatic o a p).rotation ≡ o.rotation
 unfolding joint_frame
-sliding-turn o a (Half s c) = refl
-sliding-turn o a (Slide x) = refl
+sliding_turn o a (Half s c) = refl
+sliding_turn o a (Slide x) = refl
 
 pub returns-in-Fixed : goal.returns-in-Fixed
 unfolding joint_frame
@@ -26,4 +26,4 @@ unfolding joint_frame
 returns-in-Slide c = rw (c.in-Revolute.is, c.in-Slide.is)
 
 pub returns-in-Prismatic : goal.returns-in-Prismatic
-returns-in-Prismatic c = rw c.in-Prismatic.is (sym (sliding-turn _ _ _))
+returns-in-Prismatic c = rw c.in-Prismatic.is (sym (sliding_turn _ _ _))

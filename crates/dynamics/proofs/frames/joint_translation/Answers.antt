@@ -8,17 +8,17 @@ use Rattle.dynamics.specs.Frames.{joint_frame}
 use Rattle.dynamics.proofs.frames.joint_translation.Goals as goal
 
 -- a revolute joint has its origin's translation
-turning-place : (o : Frame) (a : Vector3) (p : Pose) → (joint_frame Revolute o a p).translation ≡ o.translation
+turning_place : (o : Frame) (a : Vector3) (p : Pose) → (joint_frame Revolute o a p).translation ≡ o.translation
 unfolding joint_frame
-turning-place o a (Half s c) = refl
-turning-place o a (Slide x) = refl
+turning_place o a (Half s c) = refl
+turning_place o a (Slide x) = refl
 
 pub returns-in-Fixed : goal.returns-in-Fixed
 unfolding joint_frame
 returns-in-Fixed c = rw c.in-Fixed.is
 
 pub returns-in-Revolute : goal.returns-in-Revolute
-returns-in-Revolute c = rw c.in-Revolute.is (sym (turning-place _ _ _))
+returns-in-Revolute c = rw c.in-Revolute.is (sym (turning_place _ _ _))
 
 pub returns-in-Half : goal.returns-in-Half
 unfolding joint_frame

@@ -1,4 +1,3 @@
-use Prim.Native.Nat.{◌-◌}
 use Rattle.spatial.proofs.AllLaws.{all_start, all_turn, all_end}
 use Rattle.encode.specs.Models.{joints_writable}
 use borrow.Author.Rules.{rules}

@@ -1,4 +1,3 @@
-use Prim.Native.Nat.{◌-◌}
 use mathlib.Core.Path.{refl}
 use Rattle.spatial.proofs.AllLaws.{all_start, all_turn, all_end}
 use Rattle.encode.specs.Calls.{links_writable}

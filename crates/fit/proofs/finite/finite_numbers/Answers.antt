@@ -1,5 +1,4 @@
 use borrow.Author.Rules.{rules}
-use Prim.Native.Nat.{◌-◌}
 use mathlib.Core.Path.{refl, ◌∙◌, ap}
 use lib.Seq.{take_all}
 use Rattle.fit.specs.Finite.{all_finite}

@@ -1,4 +1,3 @@
-use Prim.Native.Nat.{◌-◌}
 use native.Mathlib.Omega.{arith}
 use lib.Ieee.{of_bits}
 use Rattle.model.specs.Flat.{link_at}

@@ -1,7 +1,5 @@
 use borrow.Author.Rules.{rules}
-use Prim.Native.Nat.{◌-◌}
 use mathlib.Core.Path.{refl}
-use mathlib.Core.Bool.{false}
 use native.Mathlib.Omega.{arith}
 use Rattle.spatial.proofs.AllLaws.{all_start, all_turn, all_end}
 use Rattle.model.proofs.numbers.all_held.Goals as goal

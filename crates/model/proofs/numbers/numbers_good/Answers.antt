@@ -1,5 +1,5 @@
 use borrow.Author.Rules.{rules}
-use Prim.Native.Nat.{◌<◌, ◌-◌}
+use Prim.Native.Nat.{◌<◌}
 use native.Mathlib.Omega.{arith}
 use Rattle.spatial.proofs.AllLaws.{all_start}
 use Rattle.model.proofs.NumberLaws.{marked_none, slot_small, good_turn, marks_turn, marks_stay, moves_fixed, moves_other, numbered_end}

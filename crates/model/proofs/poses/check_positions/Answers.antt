@@ -1,10 +1,9 @@
 use borrow.Author.Rules.{rules}
-use Prim.Native.Nat.{◌<◌, ◌-◌}
+use Prim.Native.Nat.{◌<◌}
 use mathlib.Core.Path.{sym, ◌∙◌, ap}
 use native.Mathlib.Omega.{arith}
 use Rattle.spatial.proofs.TableLaws.{listed_at}
 use Rattle.model.specs.declared.JointType.{JointType}
-use Rattle.model.specs.Flat.{kind_of}
 use Rattle.model.specs.Marks.{numbering_in, kind_in}
 use Rattle.model.specs.Poses.{pose_checked, no_pose, pose_at}
 use Rattle.model.proofs.PoseLaws.{first_start, first_turn, wrong_length, entries_checked}

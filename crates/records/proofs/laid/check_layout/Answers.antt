@@ -17,14 +17,14 @@ use Rattle.records.proofs.laid.check_layout.Goals as goal
 same : (s : List ℕ) (n m k n' m' k' : ℕ) → n ≡ n' → m ≡ m' → k ≡ k' → Laid s n m k → Laid s n' m' k'
 same s n m k n' m' k' e d f h = rw (← e, ← d, ← f) h
 
-no-counts : (s : List ℕ) (n m : ℕ) → n ≡ link_count s → m ≡ moving s → ((k : ℕ) → Laid s n m k → ⊥) → Broken ≡ layout_of (laid s)
-no-counts s n m e d h = broken s (λ b. h (load_count s (call_place (link_count s))) (rw (e, d) b))
+no_counts : (s : List ℕ) (n m : ℕ) → n ≡ link_count s → m ≡ moving s → ((k : ℕ) → Laid s n m k → ⊥) → Broken ≡ layout_of (laid s)
+no_counts s n m e d h = broken s (λ b. h (load_count s (call_place (link_count s))) (rw (e, d) b))
 
 loads_are : (s : List ℕ) (n c k : ℕ) → n ≡ link_count s → c ≡ call_place n → k ≡ load_count s c → load_count s (call_place (link_count s)) ≡ k
 loads_are s n c k e g f = cc
 
-no-loads : (s : List ℕ) (n m c k : ℕ) → n ≡ link_count s → m ≡ moving s → c ≡ call_place n → k ≡ load_count s c → (Laid s n m k → ⊥) → Broken ≡ layout_of (laid s)
-no-loads s n m c k e d g f h = broken s (λ b. h (rw (e, d, ← loads_are s n c k e g f) b))
+no_loads : (s : List ℕ) (n m c k : ℕ) → n ≡ link_count s → m ≡ moving s → c ≡ call_place n → k ≡ load_count s c → (Laid s n m k → ⊥) → Broken ≡ layout_of (laid s)
+no_loads s n m c k e d g f h = broken s (λ b. h (rw (e, d, ← loads_are s n c k e g f) b))
 
 all_laid : (s : List ℕ) (n m c k : ℕ) → n ≡ link_count s → m ≡ moving s → c ≡ call_place n → k ≡ load_count s c → Laid s n m k → Kept ≡ layout_of (laid s)
 all_laid s n m c k e d g f h = kept s (same s n m k _ _ _ e d (sym (loads_are s n c k e g f)) h)
@@ -32,14 +32,14 @@ all_laid s n m c k e d g f h = kept s (same s n m k _ _ _ e d (sym (loads_are s 
 short : (l n m k : ℕ) → l < 10 → l ≡ call_place n + (4 + call_length m k) → ⊥
 short l n m k h e = omega arith
 
-short-call : (l n m k : ℕ) → l < 10 + 104 * n + 85 * (n - 1) + 164 → l ≡ call_place n + (4 + call_length m k) → ⊥
-short-call l n m k h e = omega arith
+short_call : (l n m k : ℕ) → l < 10 + 104 * n + 85 * (n - 1) + 164 → l ≡ call_place n + (4 + call_length m k) → ⊥
+short_call l n m k h e = omega arith
 
-other-size : (l n m k : ℕ) → (l ≡ 10 + 104 * n + 85 * (n - 1) + 164 + 33 * m + 50 * k → ⊥) → l ≡ call_place n + (4 + call_length m k) → ⊥
-other-size l n m k h e = h (omega arith)
+other_size : (l n m k : ℕ) → (l ≡ 10 + 104 * n + 85 * (n - 1) + 164 + 33 * m + 50 * k → ⊥) → l ≡ call_place n + (4 + call_length m k) → ⊥
+other_size l n m k h e = h (omega arith)
 
-right-size : (l n m k : ℕ) → l ≡ 10 + 104 * n + 85 * (n - 1) + 164 + 33 * m + 50 * k → l ≡ call_place n + (4 + call_length m k)
-right-size l n m k e = omega arith
+right_size : (l n m k : ℕ) → l ≡ 10 + 104 * n + 85 * (n - 1) + 164 + 33 * m + 50 * k → l ≡ call_place n + (4 + call_length m k)
+right_size l n m k e = omega arith
 
 apart : (a b : ℕ) → a < b → b ≤ a → ⊥
 apart a b h k = omega arith
@@ -53,28 +53,28 @@ unlaid : (s : List ℕ) (n m c k : ℕ) (a b : Bool) → c ≡ call_place n → 
 unlaid s n m c k a b g e f h l = absurd (subst T (sym (and_both a b (e ∙ l.model) (f ∙ rw g l.call)) ∙ h) tt)
 
 pub returns-then-size-lt10 : goal.returns-then-size-lt10
-returns-then-size-lt10 c = no-counts _ _ _ refl refl (λ k h. short _ _ _ k c.if-size-lt10.true h.size)
+returns-then-size-lt10 c = no_counts _ _ _ refl refl (λ k h. short _ _ _ k c.if-size-lt10.true h.size)
 
 pub returns-then-n-lt1 : goal.returns-then-n-lt1
-returns-then-n-lt1 c = no-counts _ _ _ c.size_at-n.ensures.0 c.size_at-m.ensures.0 (λ k h. apart _ _ c.if-n-lt1.true h.some)
+returns-then-n-lt1 c = no_counts _ _ _ c.size_at-n.ensures.0 c.size_at-m.ensures.0 (λ k h. apart _ _ c.if-n-lt1.true h.some)
 
 pub returns-then-n-gt64 : goal.returns-then-n-gt64
-returns-then-n-gt64 c = no-counts _ _ _ c.size_at-n.ensures.0 c.size_at-m.ensures.0 (λ k h. apart _ _ c.if-n-gt64.true h.few)
+returns-then-n-gt64 c = no_counts _ _ _ c.size_at-n.ensures.0 c.size_at-m.ensures.0 (λ k h. apart _ _ c.if-n-gt64.true h.few)
 
 pub returns-then-m-gt63 : goal.returns-then-m-gt63
-returns-then-m-gt63 c = no-counts _ _ _ c.size_at-n.ensures.0 c.size_at-m.ensures.0 (λ k h. apart _ _ c.if-m-gt63.true h.moves)
+returns-then-m-gt63 c = no_counts _ _ _ c.size_at-n.ensures.0 c.size_at-m.ensures.0 (λ k h. apart _ _ c.if-m-gt63.true h.moves)
 
 pub returns-then-size-c : goal.returns-then-size-c
-returns-then-size-c c = no-counts _ _ _ c.size_at-n.ensures.0 c.size_at-m.ensures.0 (λ k h. short-call _ _ _ k c.if-size-c.true h.size)
+returns-then-size-c c = no_counts _ _ _ c.size_at-n.ensures.0 c.size_at-m.ensures.0 (λ k h. short_call _ _ _ k c.if-size-c.true h.size)
 
 pub returns-then-k-gt256 : goal.returns-then-k-gt256
-returns-then-k-gt256 c = no-loads _ _ _ _ _ c.size_at-n.ensures.0 c.size_at-m.ensures.0 (place _) c.size_at-k.ensures.0 (λ h. apart _ _ c.if-k-gt256.true h.loads)
+returns-then-k-gt256 c = no_loads _ _ _ _ _ c.size_at-n.ensures.0 c.size_at-m.ensures.0 (place _) c.size_at-k.ensures.0 (λ h. apart _ _ c.if-k-gt256.true h.loads)
 
 pub returns-then-size-c-2 : goal.returns-then-size-c-2
-returns-then-size-c-2 c = no-loads _ _ _ _ _ c.size_at-n.ensures.0 c.size_at-m.ensures.0 (place _) c.size_at-k.ensures.0 (λ h. other-size _ _ _ _ c.if-size-c-2.true h.size)
+returns-then-size-c-2 c = no_loads _ _ _ _ _ c.size_at-n.ensures.0 c.size_at-m.ensures.0 (place _) c.size_at-k.ensures.0 (λ h. other_size _ _ _ _ c.if-size-c-2.true h.size)
 
 pub returns-then-model_laid-call_laid : goal.returns-then-model_laid-call_laid
-returns-then-model_laid-call_laid c = all_laid _ _ _ _ _ c.size_at-n.ensures.0 c.size_at-m.ensures.0 (place _) c.size_at-k.ensures.0 (parts _ _ _ _ _ _ _ (place _) (omega arith) (omega arith) (omega arith) (omega arith) (right-size _ _ _ _ c.if-size-c-2.false) c.model_laid.ensures c.call_laid.ensures c.if-model_laid-call_laid.true)
+returns-then-model_laid-call_laid c = all_laid _ _ _ _ _ c.size_at-n.ensures.0 c.size_at-m.ensures.0 (place _) c.size_at-k.ensures.0 (parts _ _ _ _ _ _ _ (place _) (omega arith) (omega arith) (omega arith) (omega arith) (right_size _ _ _ _ c.if-size-c-2.false) c.model_laid.ensures c.call_laid.ensures c.if-model_laid-call_laid.true)
 
 pub returns : goal.returns
-returns c = no-loads _ _ _ _ _ c.size_at-n.ensures.0 c.size_at-m.ensures.0 (place _) c.size_at-k.ensures.0 (λ h. unlaid _ _ _ _ _ _ _ (place _) c.model_laid.ensures c.call_laid.ensures c.if-model_laid-call_laid.false h)
+returns c = no_loads _ _ _ _ _ c.size_at-n.ensures.0 c.size_at-m.ensures.0 (place _) c.size_at-k.ensures.0 (λ h. unlaid _ _ _ _ _ _ _ (place _) c.model_laid.ensures c.call_laid.ensures c.if-model_laid-call_laid.false h)

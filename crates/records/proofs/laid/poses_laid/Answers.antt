@@ -1,4 +1,3 @@
-use Prim.Native.Nat.{◌-◌}
 use native.Mathlib.Omega.{arith}
 use Rattle.spatial.proofs.AllLaws.{all_start, all_turn, all_end}
 use Rattle.records.proofs.laid.poses_laid.Goals as goal

@@ -1,4 +1,3 @@
-use Prim.Native.Nat.{◌-◌}
 use native.Mathlib.Omega.{arith}
 use Rattle.turns.proofs.repeat.repeat_gravity.Goals as goal
 

@@ -1,4 +1,3 @@
-use Prim.Native.Nat.{◌-◌}
 use mathlib.Core.Path.{ap, ◌∙◌}
 use lib.ListN.{length}
 use Rattle.wire.specs.Big.{float_bytes}
