@@ -3,14 +3,13 @@
 import os
 import platform
 import shlex
-import shutil
 import subprocess
 from pathlib import Path
 
 from .floats import is_finite
 from .records import RecordError, read_answer, write
 
-USUAL = Path(__file__).resolve().parent.parent.parent / "target" / "bin" / "figures"
+USUAL = Path(__file__).resolve().parent.parent.parent / "crates" / "figures" / "out" / "figures"
 NATIVE = ("x86_64", "amd64")
 
 
@@ -18,23 +17,9 @@ class ProgramError(Exception):
     """The program is missing, failed, or wrote no answer record."""
 
 
-def is_native(path):
-    """Whether a file is no x86-64 program, or this machine is an x86-64."""
-    with open(path, "rb") as file:
-        head = file.read(20)
-    return platform.machine().lower() in NATIVE or head[:4] != b"\x7fELF" or head[18:] != b"\x3e\0"
-
-
-def runner(path):
-    """What goes before a program on a machine that is no x86-64: RUNNER, else for an x86-64 program the emulator that the Rattle kit has there."""
-    machine = platform.machine()
-    if os.environ.get("RUNNER") and machine.lower() not in NATIVE:
-        return shlex.split(os.environ["RUNNER"])
-    tools = Path(shutil.which("rt") or "rt").resolve().parent.parent / "on" / machine / "toolchain"
-    words = [tools / "bin" / "qemu-x86_64", tools / "lib" / "ld-linux-x86-64.so.2"]
-    if is_native(path) or not all(word.is_file() for word in words):
-        return []
-    return [*map(str, words), "--library-path", str(tools / "lib")]
+def runner():
+    """What goes before a program on a machine that is no x86-64: the words of RUNNER."""
+    return [] if platform.machine().lower() in NATIVE else shlex.split(os.environ.get("RUNNER", ""))
 
 
 def command(given=None):
@@ -45,7 +30,7 @@ def command(given=None):
         raise ProgramError(f"no program at {said}; name one with --program or the environment variable FIGURES")
     if "/" not in words[0]:
         words[0] = "./" + words[0]
-    return runner(words[0]) + words
+    return runner() + words
 
 
 def output_of(words, data):
