@@ -35,7 +35,6 @@ pub fn check_link(own: u64, links: usize, id: u64, link: usize) -> LinkId
 }
 
 // All six numbers of a wrench.
-#[tactic(auto, unfolding(crate::specs::Checks::finiteness))]
 pub fn check_wrench(w: Wrench) -> Finiteness
     ensures { result ≡ finiteness w }
 {
