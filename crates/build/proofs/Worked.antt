@@ -7,7 +7,7 @@ use lib.ListN.{set, replicate}
 use lib.IntN.{pos}
 use lib.Ieee.{Float, nan, inf, fin, add, mul, le}
 use Rattle.spatial.specs.All.{all}
-use Rattle.spatial.specs.Constants.{plus_zero}
+use Rattle.spatial.specs.Constants.{plus_zero, zero_vector}
 use Rattle.fit.specs.Finite.{is_finite, all_finite}
 use Rattle.fit.specs.Unit.{is_unit, unit_vector, unit_quaternion}
 use Rattle.spatial.specs.Vectors.{scaled, dotted}
@@ -21,9 +21,9 @@ use Rattle.model.specs.declared.Model.{Model}
 use Rattle.model.specs.Numbers.{taken, numbered_at, numbered}
 use Rattle.model.specs.Links.{weighs, good_link}
 use Rattle.model.specs.Joints.{axis_fits, fits, good_joint}
-use Rattle.model.specs.Flat.{vector_at, frame_at, link_at, kind_of, model_view}
+use Rattle.model.specs.Tables.{entry_at, kind_of, view_of}
 use Rattle.model.specs.Good.{counts_fit, good_model}
-use Rattle.build.specs.Build.{pasted, blank_model, with_link, with_joint}
+use Rattle.build.specs.Build.{blank_model, with_link, with_joint}
 
 abbrev pub one : Float
 one = fin false 1 (pos 0)
@@ -64,7 +64,7 @@ abbrev pub branches : Joint → Model
 branches j = with_joint (with_link (with_joint (with_link (blank_model 0 3 2) 1 (link two (vector one plus_zero plus_zero))) 0 (joint Revolute 0 0 y)) 2 (link two (vector one plus_zero plus_zero))) 1 j
 
 abbrev good : Model → Bool
-good m = good_model (model_view m)
+good m = good_model (view_of m)
 
 abbrev pub z : Vector3
 z = vector plus_zero plus_zero one
@@ -79,7 +79,7 @@ pub good_models :
     ∷ good (arm 0 (joint Fixed 0 65535 zero₃))
     ∷ []
     ≡ true ∷ true ∷ true ∷ true ∷ true ∷ true ∷ []
-unfolding good_model counts_fit numbered numbered_at taken good_joint fits axis_fits good_link weighs all all_finite is_finite unit_quaternion unit_vector is_unit dotted scaled le add mul link_at frame_at vector_at kind_of pasted blank_model with_link with_joint
+unfolding good_model counts_fit numbered numbered_at taken good_joint fits axis_fits good_link weighs all all_finite is_finite unit_quaternion unit_vector is_unit dotted scaled le add mul kind_of zero_vector blank_model with_link with_joint
 good_models = refl
 
 -- the largest double
@@ -93,7 +93,7 @@ moved rotation translation =
 
 -- m1 with another kind in the table
 abbrev kind : ℕ → Model
-kind code = let m = arm 1 (joint Revolute 0 0 y) in record { id = 0; count = 2; moving = 1; kinds = set m.kinds 0 code; parents = m.parents; numbers = m.numbers; links = m.links; joints = m.joints }
+kind code = let m = arm 1 (joint Revolute 0 0 y) in record m { joints = set m.joints 0 (record (entry_at m 0) { kind = code }) }
 
 -- no link; 65; a kind above 2; a parent that is no earlier link; a number that is not below m; one held twice; one held by none; a
 -- fixed joint that holds one; an inertia, then a translation that is not finite; a mass below 0; a moment that is not finite; an
@@ -115,5 +115,5 @@ pub bad_models :
     ∷ good (arm 1 (joint Revolute 0 0 (vector plus_zero two plus_zero)))
     ∷ []
     ≡ replicate 14 false
-unfolding good_model counts_fit numbered numbered_at taken good_joint fits axis_fits good_link weighs all all_finite is_finite unit_quaternion unit_vector is_unit dotted scaled le add mul link_at frame_at vector_at kind_of pasted blank_model with_link with_joint
+unfolding good_model counts_fit numbered numbered_at taken good_joint fits axis_fits good_link weighs all all_finite is_finite unit_quaternion unit_vector is_unit dotted scaled le add mul kind_of zero_vector blank_model with_link with_joint
 bad_models = refl

@@ -91,6 +91,10 @@ unfolding all_finite
 all_append [] ys = refl
 all_append (x ∷ xs) ys = ap (λ (b : Bool). is_finite x && b) (all_append xs ys) ∙ sym (and_assoc (is_finite x) (all_finite xs) (all_finite ys))
 
+-- two lists, as code takes them together
+pub all_pair : (xs ys : List Float) → (all_finite xs && all_finite ys) ≡ all_finite (xs ++ ys)
+all_pair xs ys = sym (all_append xs ys)
+
 -- one number more
 pub all_next : (xs : List Float) (i : ℕ) → i < length xs → all_finite (take (i + 1) xs) ≡ (all_finite (take i xs) && is_finite (get_or xs i nan))
 unfolding all_finite

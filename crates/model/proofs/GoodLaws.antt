@@ -12,7 +12,9 @@ use Rattle.spatial.specs.Constants.{plus_zero}
 use Rattle.fit.specs.Finite.{all_finite}
 use Rattle.fit.specs.Unit.{unit_vector, unit_quaternion}
 use Rattle.spatial.proofs.AllLaws.{all_at, all_if}
-use Rattle.model.specs.declared.Checked.TheVariants.{Good, InvalidModel}
+use Rattle.std.specs.Prelude.{Ok, Err}
+use Rattle.refusal.specs.declared.Refusal.TheVariants.{InvalidModel}
+use Rattle.refusal.specs.Numbers.{unless}
 use Rattle.model.specs.Numbers.{Holds, numbered}
 use Rattle.model.specs.declared.Link.{Link}
 use Rattle.model.specs.declared.Joint.{Joint}
@@ -43,7 +45,7 @@ counts count moving h =
     }
 
 module _ (t : View) where
-  pub refused : counts_fit t.count t.moving ≡ false → InvalidModel ≡ model_checked t
+  pub refused : counts_fit t.count t.moving ≡ false → Err InvalidModel ≡ model_checked t
   unfolding good_model
   refused h = rw h
 
@@ -55,10 +57,10 @@ module _ (t : View) where
     unfolding good_model
     told = rw (c, el, ej, en)
 
-    pub told_good : (links && (joints && numbers)) ≡ true → Good ≡ model_checked t
+    pub told_good : (links && (joints && numbers)) ≡ true → Ok tt ≡ model_checked t
     told_good h = rw (sym told ∙ h)
 
-    pub told_bad : (links && (joints && numbers)) ≡ false → InvalidModel ≡ model_checked t
+    pub told_bad : (links && (joints && numbers)) ≡ false → Err InvalidModel ≡ model_checked t
     told_bad h = rw (sym told ∙ h)
 
 -- ---- the rule, both ways
@@ -165,3 +167,12 @@ module _ (t : View) (g : GoodModel t) where
 
   pub few_moving : t.moving ≤ 63
   few_moving = omega (arith, few_numbers (numbering_of t) g.numbers, g.some, g.few)
+
+-- what a check of a good model leaves to those after it
+pub good_counts : (t : View) → Ok tt ≡ model_checked t → Counts t.count t.moving
+unfolding good_model
+good_counts t e = counts _ _ (and_left (counts_fit t.count t.moving) _ (is_good (good_model t) (sym e)))
+  where
+    is_good : (b : Bool) → unless b InvalidModel ≡ Ok tt → b ≡ true
+    is_good true q = refl
+    is_good false q = cc

@@ -3,6 +3,7 @@ use Prim.Native.Nat.{ℕ, ◌+◌, ◌<◌, ◌≤◌}
 use mathlib.Core.Path.{◌≡◌, refl, sym, ap, ◌∙◌}
 use mathlib.Core.Bool.{Bool, true, false, not, cond, ◌&&◌, ◌||◌}
 use mathlib.Core.List.{List}
+use Rattle.std.specs.Prelude.{replicate}
 use mathlib.Core.Logic.{⊎_elim}
 use native.Mathlib.Decide.{ℕ_discrete}
 use native.Mathlib.Numerals.{add-one}
@@ -17,10 +18,10 @@ use Rattle.spatial.proofs.AllLaws.{all_turn, all_same}
 use Rattle.model.specs.declared.JointType.{JointType}
 use Rattle.model.specs.declared.JointType.TheVariants.{Revolute, Prismatic}
 use Rattle.model.specs.View.{moves}
-use Rattle.model.specs.Flat.{kind_of}
+use Rattle.model.specs.Tables.{kind_of}
 use Rattle.model.specs.Numbers.{Numbering, holds, taken, number_fits, numbered_at, numbered}
 use Rattle.model.specs.Poses.{kind_of_number}
-use Rattle.model.specs.Marks.{no_marks, slot_of, no_codes, Coded}
+use Rattle.model.specs.Marks.{slot_of, Coded}
 
 or_false : (a : Bool) → (a || false) ≡ a
 or_false true = refl
@@ -70,8 +71,8 @@ module _ (number moving : ℕ) where
 abbrev pub Marked : Numbering → ℕ → List Bool → Type 0
 Marked t j held = (n : ℕ) → n < t.moving → get_or held n false ≡ taken t j n
 
-pub marked_none : (t : Numbering) → t.moving ≤ 63 → Marked t 0 no_marks
-unfolding no_marks taken
+pub marked_none : (t : Numbering) → t.moving ≤ 63 → Marked t 0 (replicate 64 false)
+unfolding taken
 marked_none t h n m = get_or-replicate 64 n false false (omega arith)
 
 -- a turn, with the place, the test and the mark as code has them
@@ -116,8 +117,8 @@ numbered_end t j held good filled p q g inv f =
 
 -- ---- the kinds by number
 
-pub coded_none : (t : Numbering) (kind : ℕ → JointType) → t.moving ≤ 63 → Coded t kind 0 no_codes
-unfolding no_codes kind_of_number kind_of
+pub coded_none : (t : Numbering) (kind : ℕ → JointType) → t.moving ≤ 63 → Coded t kind 0 (replicate 64 0)
+unfolding kind_of_number kind_of
 coded_none t kind h n m = rw (get_or-replicate {A = ℕ} 64 n 0 0 (omega arith))
 
 -- a turn, with the place and what is stored as code has them

@@ -1,13 +1,14 @@
 -- What a joint that passes the quick test has, with its link, its entry and its number.
-use Prim.Native.Nat.{ℕ, suc, ◌+◌, ◌*◌, ◌<◌, ◌≤◌}
+use Prim.Native.Nat.{ℕ, suc, ◌+◌, ◌<◌, ◌≤◌}
 use mathlib.Core.Path.{◌≡◌, refl, sym, ap, ◌∙◌}
 use mathlib.Core.Bool.{Bool, true, false, not, cond, ◌&&◌, ◌||◌, false≢true, or-false}
 use mathlib.Core.List.{List}
+use Rattle.std.specs.Prelude.{Ok}
 use mathlib.Core.Logic.{⊎_elim}
 use native.Mathlib.Omega.{arith}
 use lib.Dec.{eqb, leb, ltb}
 use lib.ListN.{get_or}
-use lib.Ieee.{Float, nan, le}
+use lib.Ieee.{Float, le}
 use borrow.Author.Tests.{lt-ltb, le-ltb, ltb-true, leb-true, eq-eqb, ne_eqb, eqb-true}
 use Rattle.spatial.specs.declared.Vector3.{Vector3}
 use Rattle.spatial.specs.Constants.{plus_zero}
@@ -20,13 +21,13 @@ use Rattle.model.specs.declared.Link.{Link}
 use Rattle.model.specs.declared.Joint.{Joint}
 use Rattle.model.specs.declared.JointType.{JointType}
 use Rattle.model.specs.declared.JointType.TheVariants.{Fixed, Revolute, Prismatic}
+use Rattle.model.specs.declared.Pose.{Pose}
 use Rattle.model.specs.declared.Pose.TheVariants.{Half, Slide}
-use Rattle.model.specs.declared.Checked.TheVariants.{Good}
-use Rattle.model.specs.Flat.{kind_of}
+use Rattle.model.specs.Tables.{kind_of}
 use Rattle.model.specs.Joints.{joint_numbers}
 use Rattle.model.specs.Links.{good_link}
 use Rattle.model.specs.Numbers.{Numbering, no_number, taken, numbered_at}
-use Rattle.model.specs.Poses.{pose_at, pose_checked, kind_of_number}
+use Rattle.model.specs.Poses.{no_pose, pose_checked, kind_of_number}
 use Rattle.model.specs.View.{moves}
 use Rattle.model.specs.Walk.{stays_in, entry_passes, sound, joint_passes, next_after, times_link, times_joint}
 use Rattle.model.proofs.PoseLaws.{says_pose}
@@ -55,17 +56,19 @@ times_joint_finite zero t turn h =
 
 -- ---- an entry
 
--- by whether the joint is revolute and whether the entry is a pair
-entry_says : (revolute pair : Bool) (x y : Float) → cond revolute (pair && unit_pair x y) (not pair && is_finite x) ≡ true → pose_checked (cond revolute Revolute Prismatic) (cond pair (Half x y) (Slide x)) ≡ Good
-entry_says true true x y h =
-    says_pose Revolute (Half x y) (record { finite = sym (all_two x y) ∙ unit_pair_finite x y h; fits = h })
-entry_says true false x y h = absurd (false≢true h)
-entry_says false true x y h = absurd (false≢true h)
-entry_says false false x y h = says_pose Prismatic (Slide x) (record { finite = all_one x ∙ h; fits = refl })
+-- by whether the joint is revolute
+half_says : (revolute : Bool) (x y : Float) → (revolute && unit_pair x y) ≡ true → pose_checked (cond revolute Revolute Prismatic) (Half x y) ≡ Ok tt
+half_says true x y h = says_pose Revolute (Half x y) (record { finite = sym (all_two x y) ∙ unit_pair_finite x y h; fits = h })
+half_says false x y h = absurd (false≢true h)
 
-entry_good : (code : ℕ) (shapes : List ℕ) (poses : List Float) (n : ℕ) → eqb code 0 ≡ false → entry_passes code (get_or shapes n 0) (get_or poses (n * 2) nan) (get_or poses (n * 2 + 1) nan) ≡ true → pose_checked (kind_of code) (pose_at shapes poses n) ≡ Good
-unfolding entry_passes kind_of pose_at
-entry_good code shapes poses n e h = rw e (entry_says (eqb code 1) (eqb (get_or shapes n 0) 0) _ _ h)
+slide_says : (revolute : Bool) (x : Float) → (not revolute && is_finite x) ≡ true → pose_checked (cond revolute Revolute Prismatic) (Slide x) ≡ Ok tt
+slide_says true x h = absurd (false≢true h)
+slide_says false x h = says_pose Prismatic (Slide x) (record { finite = all_one x ∙ h; fits = refl })
+
+entry_good : (code : ℕ) (pose : Pose) → eqb code 0 ≡ false → entry_passes code pose ≡ true → pose_checked (kind_of code) pose ≡ Ok tt
+unfolding kind_of
+entry_good code (Half x y) e h = rw e (half_says (eqb code 1) x y h)
+entry_good code (Slide x) e h = rw e (slide_says (eqb code 1) x h)
 
 -- ---- a joint
 
@@ -91,7 +94,7 @@ sound_says code t l h =
     let b = and_left a _ h in
     record { kind = leb-true code 2 (and_left (leb code 2) _ b); mass = and_right (leb code 2) _ b; rotation = and_right a _ h }
 
-module _ (j code : ℕ) (t : Joint) (l : Link) (moving next : ℕ) (shapes : List ℕ) (poses : List Float) where
+module _ (j code : ℕ) (t : Joint) (l : Link) (moving next : ℕ) (ps : List Pose) where
   -- a fixed joint that passed
   pub record Still : Type 0 where
     pub sound : Sound code t l
@@ -105,9 +108,9 @@ module _ (j code : ℕ) (t : Joint) (l : Link) (moving next : ℕ) (shapes : Lis
     pub inside : t.number < moving
     pub number : t.number ≡ next
     pub axis : unit_vector t.axis ≡ true
-    pub entry : pose_checked (kind_of code) (pose_at shapes poses next) ≡ Good
+    pub entry : pose_checked (kind_of code) (get_or ps next no_pose) ≡ Ok tt
 
-  module _ (s : stays_in j code t moving ≡ true) (p : joint_passes code t l next shapes poses ≡ true) where
+  module _ (s : stays_in j code t moving ≡ true) (p : joint_passes code t l next ps ≡ true) where
     pub still : eqb code 0 ≡ true → Still
     unfolding stays_in joint_passes
     still e =
@@ -124,7 +127,7 @@ module _ (j code : ℕ) (t : Joint) (l : Link) (moving next : ℕ) (shapes : Lis
         let a = sound code t l in
         let b = eqb t.number next in
         let u = unit_vector t.axis in
-        let v = entry_passes code (get_or shapes t.number 0) (get_or poses (t.number * 2) nan) (get_or poses (t.number * 2 + 1) nan) in
+        let v = entry_passes code (get_or ps t.number no_pose) in
         let k : (leb t.parent j && ltb t.number moving) ≡ true = rw e at s in
         let h : (((a && b) && u) && v) ≡ true = rw e at p in
         let f = and_left ((a && b) && u) v h in
@@ -136,7 +139,7 @@ module _ (j code : ℕ) (t : Joint) (l : Link) (moving next : ℕ) (shapes : Lis
           inside = ltb-true _ _ (and_right (leb t.parent j) _ k);
           number = n;
           axis = and_right (a && b) u f;
-          entry = ap (λ (i : ℕ). pose_checked (kind_of code) (pose_at shapes poses i)) (sym n) ∙ entry_good code shapes poses t.number e (and_right ((a && b) && u) v h);
+          entry = ap (λ (i : ℕ). pose_checked (kind_of code) (get_or ps i no_pose)) (sym n) ∙ entry_good code (get_or ps t.number no_pose) e (and_right ((a && b) && u) v h);
         }
 
 -- ---- numbers

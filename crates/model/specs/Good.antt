@@ -1,9 +1,9 @@
 -- 01, Tables and their limits: what a good model is.
-use Rattle.std.specs.Prelude.{ℕ, ◌-◌, ◌<◌, ◌≤◌, Bool, ◌&&◌, leb}
+use Rattle.std.specs.Prelude.{ℕ, ◌-◌, ◌<◌, ◌≤◌, Bool, ◌&&◌, leb, Result}
 use Rattle.spatial.specs.All.{all}
-use Rattle.model.specs.declared.Checked.{Checked}
-use Rattle.model.specs.declared.Checked.TheVariants.{InvalidModel}
-use Rattle.model.specs.Answer.{unless}
+use Rattle.refusal.specs.declared.Refusal.{Refusal}
+use Rattle.refusal.specs.declared.Refusal.TheVariants.{InvalidModel}
+use Rattle.refusal.specs.Numbers.{unless}
 use Rattle.model.specs.View.{View, joint_count, numbering_of}
 use Rattle.model.specs.Links.{GoodLink, good_link}
 use Rattle.model.specs.Joints.{GoodJoint, good_joint}
@@ -29,5 +29,5 @@ good_model t =
     && (all t.count (λ l. good_link (t.link l)) && (all (joint_count t) (λ j. good_joint j (t.code j) (t.joint j)) && numbered (numbering_of t)))
 
 -- "1: the model isn't good"
-abbrev pub model_checked : View → Checked
+abbrev pub model_checked : View → Result Unit Refusal
 model_checked t = unless (good_model t) InvalidModel

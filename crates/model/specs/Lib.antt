@@ -1,10 +1,9 @@
-pub mod Answer
 pub mod Numbers
 pub mod View
 pub mod Links
 pub mod Joints
 pub mod Good
-pub mod Flat
+pub mod Tables
 pub mod Bases
 pub mod Poses
 pub mod Lists

@@ -1,31 +1,22 @@
 -- 01, Tables and their limits: "The pair (s, c) belongs to a revolute joint and passes the unit test; the distance belongs to a
 -- prismatic one." And the order: positions 3, then entry by entry 5 before 4.
-use Rattle.std.specs.Prelude.{ℕ, zero, suc, ◌+◌, ◌*◌, Bool, true, false, cond, List, [], ◌∷◌, ◌≡◌, eqb, get_or, Float}
+use Rattle.std.specs.Prelude.{ℕ, zero, suc, Bool, true, false, cond, List, [], ◌∷◌, ◌≡◌, eqb, get_or, Float, Result, Ok}
 use Rattle.std.specs.Float.{nan}
-use Rattle.spatial.specs.Listed.{list_of}
 use Rattle.fit.specs.Finite.{all_finite}
 use Rattle.fit.specs.Unit.{unit_pair}
 use Rattle.model.specs.declared.JointType.{JointType}
 use Rattle.model.specs.declared.JointType.TheVariants.{Fixed, Revolute, Prismatic}
 use Rattle.model.specs.declared.Pose.{Pose}
 use Rattle.model.specs.declared.Pose.TheVariants.{Half, Slide}
-use Rattle.model.specs.declared.Checked.{Checked}
-use Rattle.model.specs.declared.Checked.TheVariants.{Good, WrongLength, InvalidPose, NonFiniteInput}
-use Rattle.model.specs.Answer.{or_else, unless}
+use Rattle.refusal.specs.declared.Refusal.{Refusal}
+use Rattle.refusal.specs.declared.Refusal.TheVariants.{WrongLength, InvalidPose, NonFiniteInput}
+use Rattle.refusal.specs.Numbers.{or_else, unless}
 use Rattle.model.specs.Numbers.{Numbering, holds}
 
 -- s before c
 abbrev pub pose_numbers : Pose → List Float
 pose_numbers (Half s c) = s ∷ c ∷ []
 pose_numbers (Slide x) = x ∷ []
-
--- an entry as two tables have it: the code 0 is of a pair, any other of a distance
-unfoldable pub pose_at : List ℕ → List Float → ℕ → Pose
-pose_at shapes poses n = cond (eqb (get_or shapes n 0) 0) (Half (get_or poses (n * 2) nan) (get_or poses (n * 2 + 1) nan)) (Slide (get_or poses (n * 2) nan))
-
--- all 63 entries
-abbrev pub poses_in : List ℕ → List Float → List Pose
-poses_in shapes poses = list_of 63 (pose_at shapes poses)
 
 -- of its joint's kind, and of unit length
 abbrev pub pose_fits : JointType → Pose → Bool
@@ -44,12 +35,12 @@ pub record GoodPose (kind : JointType) (p : Pose) : Type 0 where
 -- ---- decided
 
 -- "5 before 4"
-unfoldable pub pose_checked : JointType → Pose → Checked
+unfoldable pub pose_checked : JointType → Pose → Result Unit Refusal
 pose_checked kind p = or_else (unless (all_finite (pose_numbers p)) NonFiniteInput) (unless (pose_fits kind p) InvalidPose)
 
 -- the first refusal below n
-unfoldable pub first : ℕ → (ℕ → Checked) → Checked
-first zero f = Good
+unfoldable pub first : ℕ → (ℕ → Result Unit Refusal) → Result Unit Refusal
+first zero f = Ok tt
 first (suc n) f = or_else (first n f) (f n)
 
 -- the kind of the joint that holds n, of those before j; fixed where none does
@@ -62,6 +53,6 @@ abbrev pub no_pose : Pose
 no_pose = Half nan nan
 
 -- a list of count entries, for joints of these kinds
-unfoldable pub positions_checked : Numbering → (ℕ → JointType) → List Pose → ℕ → Checked
+unfoldable pub positions_checked : Numbering → (ℕ → JointType) → List Pose → ℕ → Result Unit Refusal
 positions_checked t kind ps count =
     or_else (unless (eqb count t.moving) WrongLength) (first t.moving (λ n. pose_checked (kind_of_number t kind t.count n) (get_or ps n no_pose)))

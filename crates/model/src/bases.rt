@@ -2,12 +2,14 @@
 ghost use Rattle.std.specs.Prelude.{◌≡◌};
 ghost use Rattle.model.specs.Bases.{good_base, base_checked};
 
-use crate::{BaseState, Checked};
+use crate::BaseState;
 use fit::finite::{finite_frame, finite_twist};
 use fit::unit::is_unit_quaternion;
+use refusal::Refusal;
 
-fn base_good(base: BaseState) -> bool
-    ensures { result ≡ good_base base }
+#[tactic(auto, unfolding(crate::specs::Bases::good_base))]
+fn base_good(base: &BaseState) -> bool
+    ensures { result ≡ good_base base.now }
 {
     let finite = finite_frame(base.frame)
         & finite_twist(base.velocity)
@@ -15,12 +17,13 @@ fn base_good(base: BaseState) -> bool
     finite & is_unit_quaternion(base.frame.rotation)
 }
 
-// All of it is checked in either mode.
-pub fn check_base(base: BaseState) -> Checked
-    ensures { result ≡ base_checked base }
+/// Refuses a base state that is not good. All of it is checked in either mode.
+pub fn check_base(base: &BaseState) -> Result<(), Refusal>
+    ensures { result ≡ base_checked base.now }
 {
     if base_good(base) {
-        return Checked::Good;
+        Ok(())
+    } else {
+        Err(Refusal::InvalidBaseState)
     }
-    Checked::InvalidBaseState
 }

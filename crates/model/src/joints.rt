@@ -1,33 +1,17 @@
-// Joints out of their tables, and what a good joint is, but for its number.
-ghost use Rattle.std.specs.Prelude.{◌≡◌, ◌+◌, ◌<◌, ◌≤◌, length, get_or};
+// Joints out of their table, and what a good joint is, but for its number.
+ghost use Rattle.std.specs.Prelude.{◌≡◌, ◌<◌, ◌≤◌};
 ghost use Rattle.spatial.specs.All.{all};
-ghost use Rattle.model.specs.Flat.{frame_at, kind_of, joint_at};
+ghost use Rattle.model.specs.Tables.{kind_of, code_of, joint_of, entry_at, joint_at};
 ghost use Rattle.model.specs.Joints.{axis_fits, fits, good_joint};
 
-use crate::links::{times, vector_at};
-use crate::{Joint, JointType};
+use crate::links::times;
+use crate::{Joint, JointEntry, JointType, Model};
 use fit::finite::finite_vector;
 use fit::unit::{is_unit_quaternion, is_unit_vector};
 use spatial::constants::zero_vector;
-use spatial::{Frame, Quaternion};
 
-pub fn frame_at(s: &[f64], i: usize) -> Frame
-    requires { i + 6 < length s.now }
-    ensures { result ≡ frame_at s.now i }
-{
-    let rotation = Quaternion {
-        w: s[i],
-        i: s[i + 1],
-        j: s[i + 2],
-        k: s[i + 3],
-    };
-    let translation = vector_at(s, i + 4);
-    Frame {
-        rotation,
-        translation,
-    }
-}
-
+/// The kind of a number; only 0, 1 and 2 are good.
+#[tactic(auto, unfolding(crate::specs::Tables::kind_of))]
 pub(crate) fn kind_of(code: u8) -> JointType
     ensures { result ≡ kind_of code }
 {
@@ -38,42 +22,46 @@ pub(crate) fn kind_of(code: u8) -> JointType
     }
 }
 
-pub fn joint_at<'a>(
-    joints: &'a [f64],
-    kinds: &'a [u8],
-    parents: &'a [usize],
-    numbers: &'a [usize],
-    j: usize,
-) -> Joint
-    requires { (j < 63) × (length joints.now ≡ 630) × (length kinds.now ≡ 63) × (length parents.now ≡ 63) × (length numbers.now ≡ 63) }
-    ensures { result ≡ joint_at joints.now kinds.now parents.now numbers.now j }
-{
-    let i = j * 10;
-    let kind = kind_of(kinds[j]);
-    let origin = frame_at(joints, i);
-    let axis = vector_at(joints, i + 7);
-    Joint {
-        kind,
-        parent: parents[j],
-        number: numbers[j],
-        origin,
-        axis,
+impl From<JointType> for u8 {
+    ghost from_gives = { λ kind code. code ≡ code_of kind };
+
+    fn from(kind: JointType) -> u8 {
+        match kind {
+            JointType::Fixed => 0,
+            JointType::Revolute => 1,
+            JointType::Prismatic => 2,
+        }
+    }
+}
+
+impl JointEntry {
+    /// The joint that an entry means.
+    pub fn joint(self) -> Joint
+        ensures { result ≡ joint_of self }
+    {
+        Joint {
+            kind: kind_of(self.kind),
+            parent: self.parent,
+            number: self.number,
+            origin: self.origin,
+            axis: self.axis,
+        }
     }
 }
 
 // A fixed joint's axis may have any length.
+#[tactic(auto, unfolding(crate::specs::Joints::axis_fits))]
 fn axis_good(joint: Joint) -> bool
     ensures { result ≡ axis_fits joint }
 {
-    let kind = joint.kind;
-    match kind {
+    match joint.kind {
         JointType::Fixed => true,
-        JointType::Revolute => is_unit_vector(joint.axis),
-        JointType::Prismatic => is_unit_vector(joint.axis),
+        JointType::Revolute | JointType::Prismatic => is_unit_vector(joint.axis),
     }
 }
 
 // A known kind, a parent before it, and a rotation and an axis of unit length.
+#[tactic(auto, unfolding(crate::specs::Joints::fits))]
 fn joint_fits(j: usize, code: u8, joint: Joint) -> bool
     ensures { result ≡ fits j code joint }
 {
@@ -82,27 +70,20 @@ fn joint_fits(j: usize, code: u8, joint: Joint) -> bool
     (code <= 2) & (joint.parent <= j) & turn & axis
 }
 
-// The first joints of the tables are good, but for their numbers. A rotation of unit length is finite.
-pub(crate) fn joints_good<'a>(
-    joints: &'a [f64],
-    kinds: &'a [u8],
-    parents: &'a [usize],
-    numbers: &'a [usize],
-    count: usize,
-) -> bool
-    requires { (count ≤ 63) × (length joints.now ≡ 630) × (length kinds.now ≡ 63) × (length parents.now ≡ 63) × (length numbers.now ≡ 63) }
-    ensures { result ≡ all count (λ j. good_joint j (get_or kinds.now j 0) (joint_at joints.now kinds.now parents.now numbers.now j)) }
+// The first joints of a model are good, but for their numbers. A rotation of unit length is finite.
+pub(crate) fn joints_good(model: &Model, count: usize) -> bool
+    requires { count ≤ 63 }
+    ensures { result ≡ all count (λ j. good_joint j (entry_at model.now j).kind (joint_at model.now j)) }
 {
     let mut good = true;
     let mut a = zero_vector();
     let mut b = zero_vector();
-    let mut j = 0;
-    while j < count {
-        let joint = joint_at(joints, kinds, parents, numbers, j);
+    for j in 0..count {
+        let entry = model.joints[j];
+        let joint = entry.joint();
         a = times(a, joint.origin.translation);
         b = times(b, joint.axis);
-        good = good & joint_fits(j, kinds[j], joint);
-        j += 1;
+        good = good & joint_fits(j, entry.kind, joint);
     }
     let finite = finite_vector(times(a, b));
     good & finite

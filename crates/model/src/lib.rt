@@ -1,4 +1,4 @@
-// A robot as tables of numbers, and what a good model, base state and pose are.
+// A robot as tables of links and joints, and what a good model, base state and pose are.
 #![tactic(auto)]
 
 pub mod bases;
@@ -10,12 +10,9 @@ pub mod poses;
 pub mod tables;
 pub mod walk;
 
-ghost use Rattle.std.specs.Prelude.{◌≡◌};
-ghost use Rattle.model.specs.Answer.{number_of};
-
 use spatial::{Frame, Matrix3, Twist, Vector3};
 
-// Mass, centre of mass and the inertia about it, in the link's axes.
+/// A link: its mass (kg), its centre of mass (m) and its inertia about that (kg m2), in the link's axes.
 #[derive(Clone, Copy)]
 pub struct Link {
     pub mass: f64,
@@ -23,6 +20,7 @@ pub struct Link {
     pub inertia: Matrix3,
 }
 
+/// How a joint moves: not at all, about its axis, or along it.
 #[derive(Clone, Copy)]
 pub enum JointType {
     Fixed,
@@ -30,7 +28,7 @@ pub enum JointType {
     Prismatic,
 }
 
-// The joint j leads from its parent link to link j + 1. A fixed joint's number is 65535.
+/// A joint, from its parent link to the link after its own number. A fixed joint's moving number is 65535.
 #[derive(Clone, Copy)]
 pub struct Joint {
     pub kind: JointType,
@@ -40,20 +38,28 @@ pub struct Joint {
     pub axis: Vector3,
 }
 
-// The tables in the order of the model record: 13 numbers a link, 10 a joint. Kinds: 0 fixed, 1 revolute, 2 prismatic.
+/// A joint as it stands in a model's table, whatever stands there. Kinds: 0 fixed, 1 revolute, 2 prismatic.
+#[derive(Clone, Copy)]
+pub struct JointEntry {
+    pub kind: u8,
+    pub parent: usize,
+    pub number: usize,
+    pub origin: Frame,
+    pub axis: Vector3,
+}
+
+/// A model: `count` links, of which link 0 is the root, and a joint for each other link: joint j leads to link j + 1. `moving` of the joints
+/// move. Places past the last link and the last joint are not read.
 #[derive(Clone, Copy)]
 pub struct Model {
     pub id: u64,
     pub count: usize,
     pub moving: usize,
-    pub kinds: [u8; 63],
-    pub parents: [usize; 63],
-    pub numbers: [usize; 63],
-    pub links: [f64; 832],
-    pub joints: [f64; 630],
+    pub links: [Link; 64],
+    pub joints: [JointEntry; 63],
 }
 
-// The root link's pose and motion in the world.
+/// The root link's pose and motion in the world.
 #[derive(Clone, Copy)]
 pub struct BaseState {
     pub frame: Frame,
@@ -61,40 +67,16 @@ pub struct BaseState {
     pub acceleration: Twist,
 }
 
-// A half-angle pair (sine, cosine) of a revolute joint, or a prismatic joint's distance.
+/// A half-angle pair (sine, cosine) of a revolute joint, or a prismatic joint's distance (m).
 #[derive(Clone, Copy)]
 pub enum Pose {
     Half(f64, f64),
     Slide(f64),
 }
 
+/// Whether the root is held, or moves and bears a wrench of its own.
 #[derive(Clone, Copy)]
 pub enum RootMode {
     Fixed,
     Floating,
-}
-
-// What a check answers.
-#[derive(Clone, Copy)]
-pub enum Checked {
-    Good,
-    InvalidModel,
-    InvalidBaseState,
-    WrongLength,
-    InvalidPose,
-    NonFiniteInput,
-}
-
-// The refusal number of 01, and 0 where nothing is refused.
-pub fn number_of(answer: Checked) -> u8
-    ensures { result ≡ number_of answer }
-{
-    match answer {
-        Checked::Good => 0,
-        Checked::InvalidModel => 1,
-        Checked::InvalidBaseState => 2,
-        Checked::WrongLength => 3,
-        Checked::InvalidPose => 4,
-        Checked::NonFiniteInput => 5,
-    }
 }

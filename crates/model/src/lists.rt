@@ -2,19 +2,20 @@
 ghost use Rattle.std.specs.Prelude.{◌≡◌};
 ghost use Rattle.model.specs.Lists.{list_checked};
 
-use crate::Checked;
 use fit::finite::finite_numbers;
+use refusal::Refusal;
 
-// m numbers, all finite.
+/// Refuses a list of speeds or of accelerations that has not m numbers, or one that is not finite.
 #[tactic(auto, unfolding(crate::specs::Lists::list_checked))]
-pub fn check_list(list: &[f64], m: usize) -> Checked
+pub fn check_list(list: &[f64], m: usize) -> Result<(), Refusal>
     ensures { result ≡ list_checked list.now m }
 {
     if list.len() != m {
-        return Checked::WrongLength;
+        return Err(Refusal::WrongLength);
     }
     if finite_numbers(list) {
-        return Checked::Good;
+        Ok(())
+    } else {
+        Err(Refusal::NonFiniteInput)
     }
-    Checked::NonFiniteInput
 }

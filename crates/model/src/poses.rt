@@ -1,15 +1,15 @@
 // The check of positions.
-ghost use Rattle.std.specs.Prelude.{◌≡◌, ◌+◌, ◌*◌, ◌<◌, ◌≤◌, length, cond, eqb};
+ghost use Rattle.std.specs.Prelude.{◌≡◌, ◌≤◌, length, cond, eqb};
 ghost use Rattle.fit.specs.Finite.{all_finite};
-ghost use Rattle.model.specs.Answer.{or_else};
-ghost use Rattle.model.specs.Poses.{pose_numbers, pose_at, poses_in, pose_fits, pose_checked, positions_checked};
-ghost use Rattle.model.specs.Marks.{numbering_in, kind_in, no_codes, Coded};
+ghost use Rattle.model.specs.Poses.{pose_numbers, pose_fits, pose_checked, positions_checked};
+ghost use Rattle.model.specs.Marks.{numbering_to, kind_in, Coded};
 
 use crate::joints::kind_of;
 use crate::numbers::slot;
-use crate::{Checked, JointType, Pose};
+use crate::{JointType, Model, Pose};
 use fit::finite::is_finite;
 use fit::unit::is_unit_pair;
+use refusal::Refusal;
 
 fn pose_finite(pose: Pose) -> bool
     ensures { result ≡ all_finite (pose_numbers pose) }
@@ -24,117 +24,59 @@ fn pose_finite(pose: Pose) -> bool
 fn pose_fits(kind: JointType, pose: Pose) -> bool
     ensures { result ≡ pose_fits kind pose }
 {
-    match pose {
-        Pose::Half(s, c) => match kind {
-            JointType::Revolute => is_unit_pair(s, c),
-            JointType::Fixed => false,
-            JointType::Prismatic => false,
-        },
-        Pose::Slide(_) => match kind {
-            JointType::Prismatic => true,
-            JointType::Fixed => false,
-            JointType::Revolute => false,
-        },
+    match (kind, pose) {
+        (JointType::Revolute, Pose::Half(s, c)) => is_unit_pair(s, c),
+        (JointType::Prismatic, Pose::Slide(_)) => true,
+        _ => false,
     }
 }
 
-// One entry, against its joint's kind.
-pub fn check_pose(kind: JointType, pose: Pose) -> Checked
+/// Refuses an entry that is not finite, or is not good at a joint of this kind.
+#[tactic(auto, unfolding(crate::specs::Poses::pose_checked))]
+pub fn check_pose(kind: JointType, pose: Pose) -> Result<(), Refusal>
     ensures { result ≡ pose_checked kind pose }
 {
     if !pose_finite(pose) {
-        return Checked::NonFiniteInput;
+        return Err(Refusal::NonFiniteInput);
     }
     if pose_fits(kind, pose) {
-        return Checked::Good;
+        Ok(())
+    } else {
+        Err(Refusal::InvalidPose)
     }
-    Checked::InvalidPose
-}
-
-fn no_codes() -> [u8; 64]
-    ensures { result ≡ no_codes }
-{
-    [0; 64]
 }
 
 fn code_kept(before: u8, code: u8) -> u8
     ensures { result ≡ cond (eqb code 0) before code }
 {
-    if code == 0 {
-        return before;
-    }
-    code
+    if code == 0 { before } else { code }
 }
 
-// The kind of the joint that holds each number below m.
-fn codes_by_number<'a>(
-    kinds: &'a [u8],
-    numbers: &'a [usize],
-    joints: usize,
-    moving: usize,
-) -> [u8; 64]
-    requires { (joints ≤ 63) × (moving ≤ 63) × (length kinds.now ≡ 63) × (length numbers.now ≡ 63) }
-    ensures { Coded (numbering_in kinds.now numbers.now joints moving) (kind_in kinds.now) joints result }
+// The kind of the joint that holds each number below m, of the first joints.
+fn codes_by_number(model: &Model, count: usize) -> [u8; 64]
+    requires { (count ≤ 63) × (model.now.moving ≤ 63) }
+    ensures { Coded (numbering_to model.now count) (kind_in model.now) count result }
 {
-    let mut codes = no_codes();
-    let mut j = 0;
-    while j < joints {
-        let code = kinds[j];
-        let at = slot(numbers[j], moving);
-        codes[at] = code_kept(codes[at], code);
-        j += 1;
+    let mut codes = [0; 64];
+    for j in 0..count {
+        let entry = model.joints[j];
+        let at = slot(entry.number, model.moving);
+        codes[at] = code_kept(codes[at], entry.kind);
     }
     codes
 }
 
-fn or_else(answer: Checked, next: Checked) -> Checked
-    ensures { result ≡ or_else answer next }
+/// Refuses positions that are not m, or else the first entry that is not good at the joint, of the first `count`, that holds its number.
+pub fn check_positions(model: &Model, count: usize, positions: &[Pose]) -> Result<(), Refusal>
+    requires { (count ≤ 63) × (model.now.moving ≤ 63) }
+    ensures { result ≡ positions_checked (numbering_to model.now count) (kind_in model.now) positions.now (length positions.now) }
 {
-    match answer {
-        Checked::Good => next,
-        Checked::InvalidModel => answer,
-        Checked::InvalidBaseState => answer,
-        Checked::WrongLength => answer,
-        Checked::InvalidPose => answer,
-        Checked::NonFiniteInput => answer,
+    if positions.len() != model.moving {
+        return Err(Refusal::WrongLength);
     }
-}
-
-// Entry n of two tables: two numbers of a pair, or a distance.
-fn pose_at<'a>(shapes: &'a [u8], poses: &'a [f64], n: usize) -> Pose
-    requires { (n < length shapes.now) × (n * 2 + 2 ≤ length poses.now) }
-    ensures { result ≡ pose_at shapes.now poses.now n }
-{
-    let i = n * 2;
-    if shapes[n] == 0 {
-        return Pose::Half(poses[i], poses[i + 1]);
+    let codes = codes_by_number(model, count);
+    for (n, pose) in positions.iter().enumerate() {
+        check_pose(kind_of(codes[n]), *pose)?;
     }
-    Pose::Slide(poses[i])
-}
-
-// A list of count entries, against the joints that hold their numbers.
-pub fn check_positions<'a>(
-    kinds: &'a [u8],
-    numbers: &'a [usize],
-    joints: usize,
-    moving: usize,
-    shapes: &'a [u8],
-    poses: &'a [f64],
-    count: usize,
-) -> Checked
-    requires { (joints ≤ 63) × (moving ≤ 63) × (length kinds.now ≡ 63) × (length numbers.now ≡ 63) × (length shapes.now ≡ 63) × (length poses.now ≡ 126) }
-    ensures { result ≡ positions_checked (numbering_in kinds.now numbers.now joints moving) (kind_in kinds.now) (poses_in shapes.now poses.now) count }
-{
-    if count != moving {
-        return Checked::WrongLength;
-    }
-    let codes = codes_by_number(kinds, numbers, joints, moving);
-    let mut answer = Checked::Good;
-    let mut n = 0;
-    while n < moving {
-        let pose = pose_at(shapes, poses, n);
-        answer = or_else(answer, check_pose(kind_of(codes[n]), pose));
-        n += 1;
-    }
-    answer
+    Ok(())
 }

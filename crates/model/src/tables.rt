@@ -1,14 +1,16 @@
 // The check of a model.
 ghost use Rattle.std.specs.Prelude.{◌≡◌};
-ghost use Rattle.model.specs.Flat.{Sized, view_of, model_view, lent};
+ghost use Rattle.model.specs.Tables.{view_of};
 ghost use Rattle.model.specs.Good.{counts_fit, model_checked};
 
+use crate::Model;
 use crate::joints::joints_good;
 use crate::links::links_good;
 use crate::numbers::numbers_good;
-use crate::{Checked, Model};
+use refusal::Refusal;
 
-// 1 to 64 links, and no more moving joints than joints.
+/// Whether there are 1 to 64 links, and no more moving joints than joints.
+#[tactic(auto, unfolding(crate::specs::Good::counts_fit))]
 pub fn counts_fit(count: usize, moving: usize) -> bool
     ensures { result ≡ counts_fit count moving }
 {
@@ -18,44 +20,21 @@ pub fn counts_fit(count: usize, moving: usize) -> bool
     (count <= 64) & (moving <= count - 1)
 }
 
-// Over lent tables, for callers who hold a model or tables of its lengths.
-pub fn check_tables<'a>(
-    links: &'a [f64],
-    joints: &'a [f64],
-    kinds: &'a [u8],
-    parents: &'a [usize],
-    numbers: &'a [usize],
-    count: usize,
-    moving: usize,
-) -> Checked
-    requires { Sized (lent links.now joints.now kinds.now parents.now numbers.now) }
-    ensures { result ≡ model_checked (view_of (lent links.now joints.now kinds.now parents.now numbers.now) count moving) }
+/// Refuses a model that is not good.
+#[tactic(auto, using(crate::proofs::GoodLaws::counts, crate::proofs::GoodLaws::refused, crate::proofs::GoodLaws::told_good, crate::proofs::GoodLaws::told_bad))]
+pub fn check_model(model: &Model) -> Result<(), Refusal>
+    ensures { result ≡ model_checked (view_of model.now) }
 {
-    if !counts_fit(count, moving) {
-        return Checked::InvalidModel;
+    if !counts_fit(model.count, model.moving) {
+        return Err(Refusal::InvalidModel);
     }
-    let last = count - 1;
-    let links_fine = links_good(links, count);
-    let joints_fine = joints_good(joints, kinds, parents, numbers, last);
-    let numbers_fine = numbers_good(kinds, numbers, last, moving);
+    let last = model.count - 1;
+    let links_fine = links_good(model, model.count);
+    let joints_fine = joints_good(model, last);
+    let numbers_fine = numbers_good(model, last);
     if links_fine & (joints_fine & numbers_fine) {
-        return Checked::Good;
+        Ok(())
+    } else {
+        Err(Refusal::InvalidModel)
     }
-    Checked::InvalidModel
-}
-
-pub fn check_model(model: Model) -> Checked
-    ensures { result ≡ model_checked (model_view model) }
-{
-    let count = model.count;
-    let moving = model.moving;
-    check_tables(
-        &model.links,
-        &model.joints,
-        &model.kinds,
-        &model.parents,
-        &model.numbers,
-        count,
-        moving,
-    )
 }

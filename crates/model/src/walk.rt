@@ -5,13 +5,14 @@ ghost use Rattle.std.specs.Prelude.{false, ◌≡◌, ◌<◌, ◌≤◌, eqb, l
 ghost use Rattle.model.specs.Walk.{stays_in, entry_passes, sound, joint_passes, next_after, times_link, times_joint};
 
 use crate::links::times;
-use crate::{Joint, Link};
+use crate::{Joint, Link, Pose};
 use fit::finite::is_finite;
 use fit::unit::{is_unit_pair, is_unit_quaternion, is_unit_vector};
 use spatial::Vector3;
 use spatial::vectors::scale;
 
-// Joint j hangs on a link before it, and has its place in the lists where it moves.
+/// Joint j hangs on a link before it, and has its place in the lists where it moves.
+#[tactic(auto, unfolding(crate::specs::Walk::stays_in))]
 pub fn stays(j: usize, code: u8, joint: Joint, moving: usize) -> bool
     ensures { result ≡ stays_in j code joint moving }
 {
@@ -22,16 +23,17 @@ pub fn stays(j: usize, code: u8, joint: Joint, moving: usize) -> bool
 }
 
 // A revolute joint's pair, or a prismatic joint's distance.
-fn entry_passes(code: u8, shape: u8, x: f64, y: f64) -> bool
-    ensures { result ≡ entry_passes code shape x y }
+fn entry_passes(code: u8, pose: Pose) -> bool
+    ensures { result ≡ entry_passes code pose }
 {
-    if code == 1 {
-        return (shape == 0) & is_unit_pair(x, y);
+    match pose {
+        Pose::Half(s, c) => (code == 1) & is_unit_pair(s, c),
+        Pose::Slide(x) => (code != 1) & is_finite(x),
     }
-    (shape != 0) & is_finite(x)
 }
 
 // What is asked of every joint, and of the link that it leads to.
+#[tactic(auto, unfolding(crate::specs::Walk::sound))]
 fn sound(code: u8, joint: Joint, link: Link) -> bool
     ensures { result ≡ sound code joint link }
 {
@@ -39,30 +41,24 @@ fn sound(code: u8, joint: Joint, link: Link) -> bool
     (code <= 2) & (0.0 <= link.mass) & turn
 }
 
-// A joint with its link and its entry of the positions, where the joints before it hold the numbers below next.
-pub fn joint_passes<'a>(
-    code: u8,
-    joint: Joint,
-    link: Link,
-    next: usize,
-    shapes: &'a [u8],
-    poses: &'a [f64],
-) -> bool
-    requires { (eqb code 0 ≡ false → joint.number < 63) × (length shapes.now ≡ 63) × (length poses.now ≡ 126) }
-    ensures { result ≡ joint_passes code joint link next shapes.now poses.now }
+/// A joint with its link and its entry of the positions, where the joints before it hold the numbers below next.
+#[tactic(auto, unfolding(crate::specs::Walk::joint_passes))]
+pub fn joint_passes(code: u8, joint: Joint, link: Link, next: usize, positions: &[Pose]) -> bool
+    requires { eqb code 0 ≡ false → joint.number < length positions.now }
+    ensures { result ≡ joint_passes code joint link next positions.now }
 {
     let number = joint.number;
     let fine = sound(code, joint, link);
     if code == 0 {
         return fine & (number == 65535);
     }
-    let i = number * 2;
     let axis = is_unit_vector(joint.axis);
-    let entry = entry_passes(code, shapes[number], poses[i], poses[i + 1]);
+    let entry = entry_passes(code, positions[number]);
     fine & (number == next) & axis & entry
 }
 
-// The first number that no joint up to this one holds.
+/// The first number that no joint up to this one holds.
+#[tactic(auto, unfolding(crate::specs::Walk::next_after))]
 pub fn next_after(code: u8, next: usize) -> usize
     requires { next ≤ 63 }
     ensures { result ≡ next_after code next }
@@ -73,7 +69,8 @@ pub fn next_after(code: u8, next: usize) -> usize
     next + 1
 }
 
-// The product with a link's moment and its inertia's rows: a finite moment has a finite mass and a finite centre.
+/// The product with a link's moment and its inertia's rows: a finite moment has a finite mass and a finite centre.
+#[tactic(auto, unfolding(crate::specs::Walk::times_link))]
 pub fn times_link(zero: Vector3, link: Link) -> Vector3
     ensures { result ≡ times_link zero link }
 {
@@ -82,7 +79,8 @@ pub fn times_link(zero: Vector3, link: Link) -> Vector3
     times(times(begun, link.inertia.y), link.inertia.z)
 }
 
-// The product with a joint's translation and its axis.
+/// The product with a joint's translation and its axis.
+#[tactic(auto, unfolding(crate::specs::Walk::times_joint))]
 pub fn times_joint(zero: Vector3, joint: Joint) -> Vector3
     ensures { result ≡ times_joint zero joint }
 {

@@ -1,5 +1,5 @@
 -- A test at every number below n says just what it says at each.
-use Prim.Native.Nat.{ℕ, zero, suc, ◌+◌, ◌<◌, ◌≤◌}
+use Prim.Native.Nat.{ℕ, zero, suc, ◌+◌, ◌<◌}
 use mathlib.Core.Path.{◌≡◌, refl, sym, ap, ◌∙◌}
 use mathlib.Core.Bool.{Bool, true, false, ◌&&◌}
 use mathlib.Core.Logic.{⊎_elim}
@@ -16,9 +16,6 @@ all_start f = refl
 pub all_turn : (f : ℕ → Bool) (n : ℕ) (good now : Bool) → good ≡ all n f → now ≡ f n → (good && now) ≡ all (n + 1) f
 unfolding all
 all_turn f n good now e h = rw (add-one, e, h)
-
-pub all_end : (f : ℕ → Bool) (k n : ℕ) (good : Bool) → good ≡ all k f → k ≤ n → n ≤ k → good ≡ all n f
-all_end f k n good e p q = e ∙ ap (λ (i : ℕ). all i f) (let r : k ≡ n = omega arith in r)
 
 -- one more, where those before it passed
 pub all_more : (n : ℕ) (f : ℕ → Bool) → all n f ≡ true → f n ≡ true → all (n + 1) f ≡ true

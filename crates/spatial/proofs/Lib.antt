@@ -2,5 +2,3 @@ pub mod BoolLaws
 pub mod AllLaws
 pub mod ListedLaws
 pub mod Unique
-pub mod TableLaws
-pub mod WrenchLaws

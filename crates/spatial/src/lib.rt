@@ -7,7 +7,7 @@ pub mod tables;
 pub mod vectors;
 pub mod wrenches;
 
-#[derive(Clone, Copy)]
+#[derive(Clone, Copy, Default)]
 pub struct Vector3 {
     pub x: f64,
     pub y: f64,
@@ -15,7 +15,7 @@ pub struct Vector3 {
 }
 
 // w, then the vector part.
-#[derive(Clone, Copy)]
+#[derive(Clone, Copy, Default)]
 pub struct Quaternion {
     pub w: f64,
     pub i: f64,
@@ -45,7 +45,7 @@ pub struct Wrench {
 }
 
 // Where a child's axes stand in its parent's.
-#[derive(Clone, Copy)]
+#[derive(Clone, Copy, Default)]
 pub struct Frame {
     pub rotation: Quaternion,
     pub translation: Vector3,

@@ -1,11 +1,11 @@
 -- The bytes of a list of doubles: how many they are, part after part, and written in turns.
-use Prim.Native.Nat.{ℕ, ◌+◌, ◌*◌, ◌≤◌, ◌<◌}
+use Prim.Native.Nat.{ℕ, ◌+◌, ◌*◌, ◌<◌}
 use mathlib.Core.Path.{◌≡◌, refl, sym, ◌∙◌}
 use mathlib.Core.List.{List, [], ◌∷◌, ◌++◌, append_assoc, append-nil}
 use native.Mathlib.Numerals.{add-one}
 use native.Mathlib.Omega.{arith}
 use lib.ListN.{length, get_or, take, length-append}
-use lib.Seq.{take-suc, take_all, length-take-le}
+use lib.Seq.{take-suc, length-take-le}
 use lib.Ieee.{Float, nan, binary64, to_bits}
 use Rattle.wire.specs.Big.{bytes16, bytes32, bytes64, float_bytes}
 use Rattle.wire.specs.Placed.{placed}
@@ -37,7 +37,3 @@ pub floats_step : (s t u : List ℕ) (at : ℕ) (xs : List Float) (i : ℕ) → 
     → u ≡ placed t (at + 8 * i) (bytes64 (to_bits binary64 (get_or xs i nan))) → u ≡ placed s at (float_bytes (take (i + 1) xs))
 floats_step s t u at xs i h p q =
     rw (floats_more xs i h) (placed_then s t u at (at + 8 * i) _ _ p q (omega (arith, length_float_bytes (take i xs), length-take-le i xs (omega arith))))
-
--- where it ends
-pub floats_end : (s t : List ℕ) (at : ℕ) (xs : List Float) (i : ℕ) → length xs ≤ i → t ≡ placed s at (float_bytes (take i xs)) → t ≡ placed s at (float_bytes xs)
-floats_end s t at xs i h p = rw (take_all i xs h) at p

@@ -1,5 +1,3 @@
-pub mod Nan
 pub mod PlacedLaws
-pub mod FillLaws
 pub mod BytesLaws
 pub mod StandsLaws

@@ -5,6 +5,9 @@ ghost use Rattle.std.specs.Float.Ieee.{to_bits};
 ghost use Rattle.wire.specs.Big.{bytes16, bytes32, bytes64, float_bytes};
 ghost use Rattle.wire.specs.Placed.{placed};
 
+use std::num::f64_to_bits_with_nan;
+
+#[tactic(auto, unfolding(crate::specs::Placed::placed))]
 pub fn put_u8(out: &mut [u8], at: usize, byte: u8)
     requires { at < length out.old }
     ensures { out.new ≡ placed out.old at (byte ∷ []) }
@@ -44,14 +47,11 @@ pub fn put_u64(out: &mut [u8], at: usize, n: u64)
     put_u32(out, at + 4, n as usize);
 }
 
-// The bit pattern of a double, a NaN's with only its highest digit set.
+/// The bit pattern of a double, a NaN's with only its highest digit set.
 pub fn pattern(x: f64) -> u64
     ensures { result ≡ to_bits binary64 x }
 {
-    if x != x {
-        return 9221120237041090560;
-    }
-    f64::to_bits(x)
+    f64_to_bits_with_nan(x)
 }
 
 pub fn put_f64(out: &mut [u8], at: usize, x: f64)
@@ -66,9 +66,7 @@ pub fn put_floats(out: &mut [u8], at: usize, xs: &[f64])
     requires { at + 8 * length xs.now ≤ length out.old }
     ensures { out.new ≡ placed out.old at (float_bytes xs.now) }
 {
-    let mut i = 0;
-    while i < xs.len() {
-        put_f64(out, at + 8 * i, xs[i]);
-        i += 1;
+    for (i, x) in xs.iter().enumerate() {
+        put_f64(out, at + 8 * i, *x);
     }
 }

@@ -1,12 +1,7 @@
-use Prim.Native.Nat.{◌≤◌, ◌-◌}
-use mathlib.Core.Path.{◌≡◌}
-use lib.ListN.{get_or}
-use Rattle.model.specs.Flat.{kind_of}
-use Rattle.model.specs.Poses.{poses_in, pose_checked, first, no_pose}
+use Rattle.std.proofs.Common.{◌≡◌, get_or, Ok}
+use Rattle.model.specs.Poses.{first, pose_checked, no_pose}
+use Rattle.model.specs.Tables.{kind_of}
 use Rattle.model.proofs.poses.check_positions.Given as goal
 
 abbrev pub invariant-loop-n : goal.invariant-loop-n
-invariant-loop-n l = (l.n ≤ l.moving) × (l.answer ≡ first l.n (λ k. pose_checked (kind_of (get_or l.codes k 0)) (get_or (poses_in l.shapes l.poses) k no_pose)))
-
-abbrev pub decreases-loop-n : goal.decreases-loop-n
-decreases-loop-n l = l.moving - l.n
+invariant-loop-n l = first l.n (λ k. pose_checked (kind_of (get_or l.codes k 0)) (get_or l.positions k no_pose)) ≡ Ok tt
