@@ -140,12 +140,6 @@ module _ (b : LoadBuffer) (h : tables_agree b ≡ true) where
     pub here : (mark b l ≡ MAX → ⊥) → (mark b l < b.count) × ((at b (mark b l)).link ≡ l)
     here n = ⊎_elim (λ e. absurd (n e)) (λ e. e) (back l link_small)
 
-    pub mark_small : (mark b l ≡ MAX → ⊥) → mark b l < 64
-    mark_small n = omega (arith, (here n).0, counted.fit, counted.few)
-
-    pub last_small : (mark b l ≡ MAX → ⊥) → b.count - 1 < 64
-    last_small n = omega (arith, (here n).0, counted.fit, counted.few)
-
     pub last_link : (mark b l ≡ MAX → ⊥) → (at b (b.count - 1)).link < 64
     last_link n = omega (arith, (kept (b.count - 1) (omega (arith, (here n).0))).inside, counted.few)
 

@@ -7,6 +7,8 @@ pub mod MapPut
 pub mod MapRemove
 pub mod Determined
 pub mod Runs
+pub mod LentRuns
+pub mod Unique
 pub mod ZeroSum
 pub mod ListingSums
 pub mod Worked

@@ -17,17 +17,17 @@ use Rattle.spatial.specs.Vectors.{vector_sum}
 use Rattle.spatial.specs.Wrenches.{wrench_sum}
 use Rattle.fit.proofs.FiniteLaws.{all_append, all_three}
 use Rattle.buffer.specs.declared.Stored.{Stored}
-use Rattle.loads.specs.declared.LoadSums.{LoadSums}
+use Rattle.loads.specs.Sums.{LoadSums}
 use Rattle.buffer.specs.declared.LoadBuffer.{LoadBuffer}
-use Rattle.loads.specs.declared.Finiteness.TheVariants.{Finite}
-use Rattle.loads.specs.Checks.{finiteness}
+use Rattle.std.proofs.Common.{Ok}
+use Rattle.loads.specs.Checks.{wrench_checked, sum_checked}
 use Rattle.spatial.specs.Past.{no_wrench}
 use Rattle.loads.specs.Sums.{start_sums, sum_step, sum_from, load_sums}
 use Rattle.buffer.specs.Agree.{no_stored, at, Sized, Doubles, Held, Agree}
 use Rattle.buffer.specs.Calls.{stored, load_of}
 use Rattle.buffer.specs.Map.{table, sum_of}
 use Rattle.spatial.proofs.BoolLaws.{and_left, and_right, and_both, same_or_not}
-use Rattle.loads.proofs.CheckLaws.{known_if, wrench_finite}
+use Rattle.loads.proofs.CheckLaws.{known_if, wrench_finite, sum_finite}
 use Rattle.loads.proofs.SumLaws.{step_taken}
 use Rattle.buffer.proofs.ZeroSum.{zero_sum}
 use Rattle.buffer.proofs.MapPut.{stored_length, stored_at}
@@ -54,10 +54,10 @@ vector_sum_finite v d h =
     all : (x && y) && z ≡ true
     all = all_three v.x v.y v.z ∙ h
 
-wrench_sum_finite : (w : Wrench) → Doubles w.torque → Doubles w.force → all_finite (wrench_numbers w) ≡ true → finiteness (wrench_sum zero_wrench w) ≡ Finite
+wrench_sum_finite : (w : Wrench) → Doubles w.torque → Doubles w.force → all_finite (wrench_numbers w) ≡ true → sum_checked (wrench_sum zero_wrench w) ≡ Ok tt
 unfolding wrench_sum zero_wrench
 wrench_sum_finite w d e h =
-    wrench_finite (wrench_sum zero_wrench w)
+    sum_finite (wrench_sum zero_wrench w)
     (all_append (vector_numbers (vector_sum zero_vector w.torque)) (vector_numbers (vector_sum zero_vector w.force))
     ∙ and_both _ _ (vector_sum_finite w.torque d (and_left (all_finite (vector_numbers w.torque)) (all_finite (vector_numbers w.force)) all))
     (vector_sum_finite w.force e (and_right (all_finite (vector_numbers w.torque)) (all_finite (vector_numbers w.force)) all)))
@@ -69,8 +69,8 @@ wrench_sum_finite w d e h =
 
 record Fine (links : ℕ) (s : Stored) : Type 0 where
   inside : s.link < links
-  finite : finiteness s.wrench ≡ Finite
-  summed : finiteness (wrench_sum zero_wrench s.wrench) ≡ Finite
+  finite : wrench_checked s.wrench ≡ Ok tt
+  summed : sum_checked (wrench_sum zero_wrench s.wrench) ≡ Ok tt
 
 record Apart (links : ℕ) (ss : List Stored) : Type 0 where
   fine : (i : ℕ) → i < length ss → Fine links (get_or ss i no_stored)
@@ -95,7 +95,7 @@ module _ (id links : ℕ) (few : links ≤ 64) where
   one : (ws : List Wrench) (s : Stored) → Fine links s → get_or ws s.link no_wrench ≡ zero_wrench → sum_step id links (good ws) (load_of id s) ≡ good (set ws s.link (wrench_sum zero_wrench s.wrench))
   one ws s h e =
       step_taken id links (good ws) (load_of id s) refl (known_if id links s.link h.inside (omega (arith, h.inside))) h.finite
-      (ap (λ (w : Wrench). finiteness (wrench_sum w s.wrench)) e ∙ h.summed)
+      (ap (λ (w : Wrench). sum_checked (wrench_sum w s.wrench)) e ∙ h.summed)
       ∙ ap (λ (w : Wrench). good (set ws s.link (wrench_sum w s.wrench))) e
 
   all : (ws : List Wrench) (ss : List Stored) → Apart links ss → ((i : ℕ) → i < length ss → get_or ws (get_or ss i no_stored).link no_wrench ≡ zero_wrench) → sum_from id links (good ws) (map (load_of id) ss) ≡ good (filled ws ss)

@@ -6,22 +6,23 @@ use Prim.Native.Nat.{ℕ, zero, suc, ◌<◌}
 use native.Mathlib.Omega.{arith}
 use lib.ListN.{length, length-set, length-replicate, get_or-replicate}
 use borrow.Author.Tests.{eq-eqb, ne_eqb, lt-ltb, le-ltb}
+use mathlib.Core.Bool.{true}
+use Rattle.fit.specs.Finite.{all_finite, wrench_numbers}
 use Rattle.spatial.specs.declared.Wrench.{Wrench}
 use Rattle.buffer.specs.declared.Stored.{Stored}
 use Rattle.buffer.specs.declared.LoadBuffer.{LoadBuffer}
-use Rattle.buffer.specs.declared.Tables.TheVariants.{Sound, Corrupt}
-use Rattle.loads.specs.declared.LinkId.{LinkId}
-use Rattle.loads.specs.declared.LinkId.TheVariants.{Known, Unknown}
-use Rattle.loads.specs.declared.Finiteness.{Finiteness}
-use Rattle.loads.specs.declared.Finiteness.TheVariants.{Finite, NonFinite}
-use Rattle.loads.specs.declared.LinkCount.TheVariants.{Allowed, Refused}
-use Rattle.loads.specs.Checks.{or_else, accepted, link_count, link_id, link_number, finiteness, input_number, sum_number}
+use Rattle.std.proofs.Common.{Ok, Err}
+use Rattle.refusal.specs.declared.Refusal.{Refusal}
+use Rattle.refusal.specs.declared.Refusal.TheVariants.{CorruptBuffer}
+use Rattle.refusal.specs.Numbers.{number}
+use Rattle.refusal.proofs.Unique as Unique
+use Rattle.loads.specs.Checks.{or_else, accepted, links_checked, link_checked, wrench_checked, sum_checked}
 use Rattle.buffer.specs.Agree.{MAX, cleared, no_stored, at, mark, Sized, Agree, tables}
 use Rattle.buffer.specs.Calls.{put_of, added_of, drop_of, set_of, add_of, remove_of, clear_of, len_of, is_empty_of, empty_buffer, new_of, stored, listed_in, list_of}
 use Rattle.buffer.specs.Map.{place_of, map_set, map_added, map_remove, buffer_of}
 use Rattle.buffer.specs.Runs.{Call, answer_of, after_of, answers_of, last_of, set_refused, add_refused, remove_refused, map_answer, map_after, map_answers, map_last}
 use Rattle.spatial.proofs.BoolLaws.{same_or_not}
-use Rattle.loads.proofs.CheckLaws.{known_link, finite_wrench}
+use Rattle.loads.proofs.CheckLaws.{known_link, finite_wrench, finite_sum}
 use Rattle.buffer.proofs.AgreeLaws.{true_sound, allowed_few, allowed_some, allowed_if, corrupt_links}
 use Rattle.buffer.proofs.Decided.{here, decided}
 use Rattle.buffer.proofs.MapPut.{stored_length, stored_at, put_map, put_agrees}
@@ -42,18 +43,6 @@ or_same : (m n n' : ℕ) → (m ≡ 0 → n ≡ n') → or_else m n ≡ or_else 
 or_same zero n n' h = h refl
 or_same (suc m) n n' h = refl
 
-link_zero : (k : LinkId) → link_number k ≡ 0 → k ≡ Known
-link_zero Known e = refl
-link_zero Unknown e = absurd (omega arith)
-
-input_zero : (f : Finiteness) → input_number f ≡ 0 → f ≡ Finite
-input_zero Finite e = refl
-input_zero NonFinite e = absurd (omega arith)
-
-sum_zero : (f : Finiteness) → sum_number f ≡ 0 → f ≡ Finite
-sum_zero Finite e = refl
-sum_zero NonFinite e = absurd (omega arith)
-
 -- ---- one call
 
 -- what a call leaves of a buffer: its id and link count, tables that agree, and the map ss
@@ -66,7 +55,7 @@ pub record After (b : LoadBuffer) (ss : List Stored) (next : LoadBuffer) : Type 
 
 module _ (b : LoadBuffer) (z : Sized b) (a : Agree b) where
   -- "check 11" passes
-  pub passes : tables b ≡ Sound
+  pub passes : tables b ≡ Ok tt
   passes = true_sound b (decided b a)
 
   same : After b (stored b) b
@@ -76,14 +65,14 @@ module _ (b : LoadBuffer) (z : Sized b) (a : Agree b) where
   chosen zero ss next h = h refl
   chosen (suc n) ss next h = same
 
-  put_after : (l : ℕ) (w : Wrench) → l < b.links → finiteness w ≡ Finite → After b (map_set l w (stored b)) (put_of b l w)
+  put_after : (l : ℕ) (w : Wrench) → l < b.links → all_finite (wrench_numbers w) ≡ true → After b (map_set l w (stored b)) (put_of b l w)
   unfolding put_of
   put_after l w k f = record {
     id = ⊎_elim (λ e. rw (eq-eqb (mark b l) MAX e)) (λ e. rw (ne_eqb (mark b l) MAX e)) (same_or_not (mark b l) MAX);
     links = ⊎_elim (λ e. rw (eq-eqb (mark b l) MAX e)) (λ e. rw (ne_eqb (mark b l) MAX e)) (same_or_not (mark b l) MAX);
     sized = ⊎_elim (λ e. rw (eq-eqb (mark b l) MAX e) (record { marks = simp length-set z.marks; places = simp length-set z.places }))
         (λ e. rw (ne_eqb (mark b l) MAX e) (record { marks = z.marks; places = simp length-set z.places })) (same_or_not (mark b l) MAX);
-    agree = put_agrees b z a l w k (finite_wrench w f);
+    agree = put_agrees b z a l w k f;
     map = put_map b z a l w k;
   }
 
@@ -92,7 +81,7 @@ module _ (b : LoadBuffer) (z : Sized b) (a : Agree b) where
   set_after id l w =
       rw passes
       (chosen (set_refused b.id b.links id l w) (map_set l w (stored b)) (put_of b l w)
-      (λ e. put_after l w (known_link _ _ _ _ (link_zero (link_id b.id b.links id l) (or_left _ _ e))) (input_zero (finiteness w) (or_right (link_number (link_id b.id b.links id l)) _ e))))
+      (λ e. put_after l w (known_link _ _ _ _ (Unique.accepted (link_checked b.id b.links id l) (or_left _ _ e))) (finite_wrench w (Unique.accepted (wrench_checked w) (or_right (number (link_checked b.id b.links id l)) _ e)))))
 
   added_is : (l : ℕ) (w : Wrench) → l < b.links → added_of b l w ≡ map_added l w (stored b)
   unfolding added_of map_added
@@ -107,10 +96,10 @@ module _ (b : LoadBuffer) (z : Sized b) (a : Agree b) where
           rw (ne_eqb (mark b l) MAX e, present b z a l its, lt-ltb (mark b l) (length (stored b)) (omega (arith, its.0, stored_length b z a)), stored_at b z a (mark b l) its.0)
 
   known : (id l : ℕ) (w : Wrench) → set_refused b.id b.links id l w ≡ 0 → l < b.links
-  known id l w e = known_link _ _ _ _ (link_zero (link_id b.id b.links id l) (or_left _ _ e))
+  known id l w e = known_link _ _ _ _ (Unique.accepted (link_checked b.id b.links id l) (or_left _ _ e))
 
-  add_number : (id l : ℕ) (w : Wrench) → or_else (set_refused b.id b.links id l w) (sum_number (finiteness (added_of b l w))) ≡ add_refused b.id b.links (stored b) id l w
-  add_number id l w = or_same (set_refused b.id b.links id l w) _ _ (λ e. ap (λ (v : Wrench). sum_number (finiteness v)) (added_is l w (known id l w e)))
+  add_number : (id l : ℕ) (w : Wrench) → or_else (set_refused b.id b.links id l w) (number (sum_checked (added_of b l w))) ≡ add_refused b.id b.links (stored b) id l w
+  add_number id l w = or_same (set_refused b.id b.links id l w) _ _ (λ e. ap (λ (v : Wrench). number (sum_checked v)) (added_is l w (known id l w e)))
 
   add_after : (id l : ℕ) (w : Wrench) → After b (map_after b.id b.links (stored b) (Call.add id l w)) (add_of b id l w).buffer
   unfolding add_of map_after
@@ -121,7 +110,7 @@ module _ (b : LoadBuffer) (z : Sized b) (a : Agree b) where
       taken : add_refused b.id b.links (stored b) id l w ≡ 0 → After b (map_set l (map_added l w (stored b)) (stored b)) (put_of b l (added_of b l w))
       taken e =
           let k : l < b.links = known id l w (or_left _ _ e) in
-          rw (added_is l w k) (put_after l (map_added l w (stored b)) k (sum_zero _ (or_right (set_refused b.id b.links id l w) _ e)))
+          rw (added_is l w k) (put_after l (map_added l w (stored b)) k (finite_sum _ (Unique.accepted _ (or_right (set_refused b.id b.links id l w) _ e))))
 
   drop_after : (l : ℕ) → l < b.links → After b (map_remove l (stored b)) (drop_of b l)
   unfolding drop_of
@@ -139,10 +128,10 @@ module _ (b : LoadBuffer) (z : Sized b) (a : Agree b) where
   remove_after id l =
       rw passes
       (chosen (remove_refused b.id b.links id l) (map_remove l (stored b)) (drop_of b l)
-      (λ e. drop_after l (known_link _ _ _ _ (link_zero (link_id b.id b.links id l) e))))
+      (λ e. drop_after l (known_link _ _ _ _ (Unique.accepted (link_checked b.id b.links id l) e))))
 
 -- a new buffer holds the empty map
-module _ (id links : ℕ) (h : link_count links ≡ Allowed) where
+module _ (id links : ℕ) (h : links_checked links ≡ Ok tt) where
   pub new_sized : Sized (empty_buffer id links)
   unfolding empty_buffer
   new_sized = record { marks = length-replicate 64 MAX; places = length-replicate 64 cleared }
@@ -162,7 +151,7 @@ module _ (b : LoadBuffer) (z : Sized b) (a : Agree b) where
   empty_after : After b [] (empty_buffer b.id b.links)
   unfolding empty_buffer
   empty_after =
-      let h : link_count b.links ≡ Allowed = allowed_if b.links a.counts.some a.counts.few in
+      let h : links_checked b.links ≡ Ok tt = allowed_if b.links a.counts.some a.counts.few in
       record { id = refl; links = refl; sized = new_sized b.id b.links h; agree = new_agrees b.id b.links h; map = refl }
 
   clear_after : After b [] (clear_of b).buffer
@@ -208,7 +197,7 @@ run_after b z a (c ∷ cs) =
 
 -- ---- from a new buffer
 
-module _ (id links : ℕ) (h : link_count links ≡ Allowed) (cs : List Call) where
+module _ (id links : ℕ) (h : links_checked links ≡ Ok tt) (cs : List Call) where
   new_after : After (new_of id links).buffer (map_last id links [] cs) (last_of (new_of id links).buffer cs)
   unfolding new_of empty_buffer
   new_after = run_after (empty_buffer id links) (new_sized id links h) (new_agrees id links h) cs
@@ -226,10 +215,10 @@ module _ (id links : ℕ) (h : link_count links ≡ Allowed) (cs : List Call) wh
       ∙ rw (new_after.id, new_after.links, new_after.map)
 
   -- check 11 never fires
-  pub run_passes : tables (last_of (new_of id links).buffer cs) ≡ Sound
+  pub run_passes : tables (last_of (new_of id links).buffer cs) ≡ Ok tt
   run_passes = passes (last_of (new_of id links).buffer cs) new_after.sized new_after.agree
 
 -- after a refused `new` it fires at once
-pub new_refused : (id links : ℕ) → link_count links ≡ Refused → tables (new_of id links).buffer ≡ Corrupt
+pub new_refused : (id links : ℕ) (e : Refusal) → links_checked links ≡ Err e → tables (new_of id links).buffer ≡ Err CorruptBuffer
 unfolding new_of empty_buffer
-new_refused id links h = sym (corrupt_links (new_of id links).buffer h)
+new_refused id links e h = sym (corrupt_links (new_of id links).buffer e h)

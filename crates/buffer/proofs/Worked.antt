@@ -10,9 +10,8 @@ use lib.Ieee.{fin}
 use Rattle.spatial.specs.declared.Vector3.{Vector3}
 use Rattle.spatial.specs.declared.Wrench.{Wrench}
 use Rattle.fit.specs.Finite.{is_finite, all_finite}
-use Rattle.loads.specs.declared.Finiteness.TheVariants.{Finite}
-use Rattle.loads.specs.declared.LinkCount.TheVariants.{Allowed}
-use Rattle.loads.specs.Checks.{link_count, finiteness, list_length}
+use Rattle.std.proofs.Common.{Ok}
+use Rattle.loads.specs.Checks.{links_checked, wrench_checked, list_checked}
 use Rattle.buffer.specs.Calls.{entry, new_of, load_of, blank_table}
 use Rattle.buffer.specs.Map.{map_set}
 use Rattle.buffer.specs.Runs.{Call, Answer, answers_of, map_answer, map_after, map_answers}
@@ -24,8 +23,8 @@ use Rattle.buffer.proofs.Runs.{run_as_map}
 abbrev pub listed : ℕ → ℕ → Wrench → List Answer
 listed id l w = Answer.number 0 ∷ Answer.loads (record { number = 0; count = 1; loads = load_of id (entry l w) ∷ drop 1 blank_table }) ∷ []
 
-pub set_then_list : (id links l : ℕ) (w : Wrench) → link_count links ≡ Allowed → l < links → finiteness w ≡ Finite → answers_of (new_of id links).buffer (Call.set id l w ∷ Call.list 1 ∷ []) ≡ listed id l w
-unfolding map_answers map_answer map_after map_set list_length
+pub set_then_list : (id links l : ℕ) (w : Wrench) → links_checked links ≡ Ok tt → l < links → wrench_checked w ≡ Ok tt → answers_of (new_of id links).buffer (Call.set id l w ∷ Call.list 1 ∷ []) ≡ listed id l w
+unfolding map_answers map_answer map_after map_set list_checked
 set_then_list id links l w h k f =
     run_as_map id links h (Call.set id l w ∷ Call.list 1 ∷ [])
     ∙ simp (known_if id links l k (omega (arith, allowed_few links h)), f)
@@ -36,9 +35,9 @@ minus_zeros = record { x = fin true 0 (pos 0); y = fin true 0 (pos 0); z = fin t
 abbrev pub minus_wrench : Wrench
 minus_wrench = record { torque = minus_zeros; force = minus_zeros }
 
-minus_finite : finiteness minus_wrench ≡ Finite
-unfolding finiteness all_finite is_finite
+minus_finite : wrench_checked minus_wrench ≡ Ok tt
+unfolding wrench_checked all_finite is_finite
 minus_finite = refl
 
-pub minus_zero_listed : (id links l : ℕ) → link_count links ≡ Allowed → l < links → answers_of (new_of id links).buffer (Call.set id l minus_wrench ∷ Call.list 1 ∷ []) ≡ listed id l minus_wrench
+pub minus_zero_listed : (id links l : ℕ) → links_checked links ≡ Ok tt → l < links → answers_of (new_of id links).buffer (Call.set id l minus_wrench ∷ Call.list 1 ∷ []) ≡ listed id l minus_wrench
 minus_zero_listed id links l h k = set_then_list id links l minus_wrench h k minus_finite

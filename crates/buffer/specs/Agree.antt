@@ -1,5 +1,5 @@
 -- 01, The load buffer: what it is that the tables agree, and a test of it place by place.
-use Rattle.std.specs.Prelude.{ℕ, ◌<◌, ◌≤◌, ◌≡◌, Bool, true, false, ◌&&◌, ◌||◌, cond, T, ltb, leb, eqb, length, get_or}
+use Rattle.std.specs.Prelude.{ℕ, ◌<◌, ◌≤◌, ◌≡◌, Bool, true, ◌&&◌, ◌||◌, cond, T, ltb, leb, eqb, length, get_or, Result}
 use Rattle.std.specs.Float.{binary64}
 use Rattle.std.specs.Float.Ieee.{fits}
 use Rattle.spatial.specs.declared.Vector3.{Vector3}
@@ -8,8 +8,9 @@ use Rattle.spatial.specs.Constants.{zero_wrench}
 use Rattle.fit.specs.Finite.{all_finite, wrench_numbers, is_plus_zero}
 use Rattle.buffer.specs.declared.Stored.{Stored}
 use Rattle.buffer.specs.declared.LoadBuffer.{LoadBuffer}
-use Rattle.buffer.specs.declared.Tables.{Tables}
-use Rattle.buffer.specs.declared.Tables.TheVariants.{Sound, Corrupt}
+use Rattle.refusal.specs.declared.Refusal.{Refusal}
+use Rattle.refusal.specs.declared.Refusal.TheVariants.{CorruptBuffer}
+use Rattle.refusal.specs.Numbers.{unless}
 use Rattle.spatial.specs.Past.{no_wrench}
 
 -- "`usize::MAX` stays as the empty mark"
@@ -93,14 +94,6 @@ counts_agree b = (leb 1 b.links && leb b.links 64) && leb b.count b.links
 unfoldable pub tables_agree : LoadBuffer → Bool
 tables_agree b = counts_agree b && all 64 (place_agrees b)
 
-abbrev pub tables_of : Bool → Tables
-tables_of true = Sound
-tables_of false = Corrupt
-
 -- "11: a buffer's two tables disagree"
-abbrev pub tables_number : Tables → ℕ
-tables_number Sound = 0
-tables_number Corrupt = 11
-
-unfoldable pub tables : LoadBuffer → Tables
-tables b = tables_of (tables_agree b)
+unfoldable pub tables : LoadBuffer → Result Unit Refusal
+tables b = unless (tables_agree b) CorruptBuffer

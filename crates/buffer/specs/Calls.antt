@@ -1,18 +1,35 @@
 -- 01, The load buffer: what each call answers, for every buffer; a refused call changes nothing.
-use Rattle.std.specs.Prelude.{ℕ, ◌+◌, ◌-◌, false, cond, List, ◌++◌, map, eqb, set, take, drop, replicate}
+use Rattle.std.specs.Prelude.{ℕ, ◌+◌, ◌-◌, ◌<◌, ◌≡◌, Bool, false, cond, List, Result, Ok, Err, ◌++◌, map, eqb, set, take, drop, replicate}
+use Rattle.refusal.specs.declared.Refusal.{Refusal}
+use Rattle.refusal.specs.Numbers.{number_of, number}
 use Rattle.spatial.specs.declared.Wrench.{Wrench}
 use Rattle.spatial.specs.Wrenches.{wrench_sum}
 use Rattle.loads.specs.declared.Load.{Load}
-use Rattle.loads.specs.declared.LinkCount.{LinkCount}
-use Rattle.loads.specs.declared.LinkCount.TheVariants.{Allowed, Refused}
 use Rattle.buffer.specs.declared.Stored.{Stored}
 use Rattle.buffer.specs.declared.LoadBuffer.{LoadBuffer}
-use Rattle.buffer.specs.declared.Changed.{Changed}
-use Rattle.buffer.specs.declared.Counted.{Counted}
-use Rattle.buffer.specs.declared.Emptiness.{Emptiness}
-use Rattle.buffer.specs.declared.Listed.{Listed}
-use Rattle.loads.specs.Checks.{or_else, accepted, link_count, link_id, link_number, finiteness, input_number, sum_number, list_length, length_number}
-use Rattle.buffer.specs.Agree.{MAX, cleared, at, mark, tables_number, tables}
+use Rattle.loads.specs.Checks.{or_else, accepted, links_checked, link_checked, wrench_checked, sum_checked, list_checked}
+use Rattle.buffer.specs.Agree.{MAX, cleared, at, mark, tables}
+
+-- a refusal number, 0 for none, and the buffer after the call
+pub record Changed : Type 0 where
+  pub number : ℕ
+  pub buffer : LoadBuffer
+
+-- a refusal number, and how many loads a buffer holds
+pub record Counted : Type 0 where
+  pub number : ℕ
+  pub count : ℕ
+
+-- a refusal number, and whether a buffer holds no load
+pub record Emptiness : Type 0 where
+  pub number : ℕ
+  pub empty : Bool
+
+-- a refusal number, and a buffer's loads in stored order
+pub record Listed : Type 0 where
+  pub number : ℕ
+  pub count : ℕ
+  pub loads : List Load
 
 -- a call that changes a buffer: its number, and the next buffer unless it is refused
 abbrev pub changed : ℕ → LoadBuffer → LoadBuffer → Changed
@@ -21,18 +38,19 @@ changed n b next = record { number = n; buffer = accepted n next b }
 abbrev pub entry : ℕ → Wrench → Stored
 entry l w = record { link = l; wrench = w }
 
+-- a buffer and a link of which a load can be written or taken out
+pub record Ready (b : LoadBuffer) (l : ℕ) : Type 0 where
+  pub sound : tables b ≡ Ok tt
+  pub known : l < b.links
+  pub small : l < 64
+
 -- no load, all marks empty, all places cleared
 unfoldable pub empty_buffer : ℕ → ℕ → LoadBuffer
 empty_buffer id links = record { id = id; links = links; count = 0; positions = replicate 64 MAX; loads = replicate 64 cleared }
 
--- "1: a new buffer's link count is not 1 to 64"
-abbrev pub link_count_number : LinkCount → ℕ
-link_count_number Allowed = 0
-link_count_number Refused = 1
-
 -- "1: a new buffer's link count is not 1 to 64"; a refused one is of that link count too, so that every call on it answers 11
 unfoldable pub new_of : ℕ → ℕ → Changed
-new_of id links = record { number = link_count_number (link_count links); buffer = empty_buffer id links }
+new_of id links = record { number = number (links_checked links); buffer = empty_buffer id links }
 
 -- "`set` replaces or appends"
 abbrev pub append_of : LoadBuffer → ℕ → Wrench → LoadBuffer
@@ -60,7 +78,7 @@ put_of b l w = cond (eqb (mark b l) MAX) (append_of b l w) (replace_of b l w)
 
 -- "Every call checks 11 first, then 6, 5, 7"
 abbrev pub set_number : LoadBuffer → ℕ → ℕ → Wrench → ℕ
-set_number b id l w = or_else (tables_number (tables b)) (or_else (link_number (link_id b.id b.links id l)) (input_number (finiteness w)))
+set_number b id l w = or_else (number (tables b)) (or_else (number (link_checked b.id b.links id l)) (number (wrench_checked w)))
 
 unfoldable pub set_of : LoadBuffer → ℕ → ℕ → Wrench → Changed
 set_of b id l w = changed (set_number b id l w) b (put_of b l w)
@@ -70,7 +88,7 @@ unfoldable pub added_of : LoadBuffer → ℕ → Wrench → Wrench
 added_of b l w = cond (eqb (mark b l) MAX) w (wrench_sum (at b (mark b l)).wrench w)
 
 abbrev pub add_number : LoadBuffer → ℕ → ℕ → Wrench → ℕ
-add_number b id l w = or_else (set_number b id l w) (sum_number (finiteness (added_of b l w)))
+add_number b id l w = or_else (set_number b id l w) (number (sum_checked (added_of b l w)))
 
 unfoldable pub add_of : LoadBuffer → ℕ → ℕ → Wrench → Changed
 add_of b id l w = changed (add_number b id l w) b (put_of b l (added_of b l w))
@@ -91,20 +109,29 @@ unfoldable pub drop_of : LoadBuffer → ℕ → LoadBuffer
 drop_of b l = cond (eqb (mark b l) MAX) b (taken_of b l)
 
 abbrev pub remove_number : LoadBuffer → ℕ → ℕ → ℕ
-remove_number b id l = or_else (tables_number (tables b)) (link_number (link_id b.id b.links id l))
+remove_number b id l = or_else (number (tables b)) (number (link_checked b.id b.links id l))
 
 unfoldable pub remove_of : LoadBuffer → ℕ → ℕ → Changed
 remove_of b id l = changed (remove_number b id l) b (drop_of b l)
 
 unfoldable pub clear_of : LoadBuffer → Changed
-clear_of b = changed (tables_number (tables b)) b (empty_buffer b.id b.links)
+clear_of b = changed (number (tables b)) b (empty_buffer b.id b.links)
 
 -- a refused question has the answer 0, or false
 unfoldable pub len_of : LoadBuffer → Counted
-len_of b = record { number = tables_number (tables b); count = accepted (tables_number (tables b)) b.count 0 }
+len_of b = record { number = number (tables b); count = accepted (number (tables b)) b.count 0 }
 
 unfoldable pub is_empty_of : LoadBuffer → Emptiness
-is_empty_of b = record { number = tables_number (tables b); empty = accepted (tables_number (tables b)) (eqb b.count 0) false }
+is_empty_of b = record { number = number (tables b); empty = accepted (number (tables b)) (eqb b.count 0) false }
+
+-- the two questions' answers, as those are given
+abbrev pub counted : Result ℕ Refusal → Counted
+counted (Ok n) = record { number = 0; count = n }
+counted (Err e) = record { number = number_of e; count = 0 }
+
+abbrev pub emptied : Result Bool Refusal → Emptiness
+emptied (Ok t) = record { number = 0; empty = t }
+emptied (Err e) = record { number = number_of e; empty = false }
 
 -- the stored loads, in order
 abbrev pub stored : LoadBuffer → List Stored
@@ -118,9 +145,9 @@ unfoldable pub listed_in : LoadBuffer → List Load → List Load
 listed_in b table = map (load_of b.id) (stored b) ++ drop b.count table
 
 abbrev pub list_number : LoadBuffer → ℕ → ℕ
-list_number b places = or_else (tables_number (tables b)) (length_number (list_length b.count places))
+list_number b places = or_else (number (tables b)) (number (list_checked b.count places))
 
--- the table that `list` fills: id 0, link 0 and +0 at each of 64 places
+-- a table of 64 loads of id 0, link 0 and +0, and a listing into it for so many places
 unfoldable pub blank_table : List Load
 blank_table = replicate 64 (load_of 0 cleared)
 

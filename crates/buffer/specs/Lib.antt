@@ -2,3 +2,4 @@ pub mod Agree
 pub mod Calls
 pub mod Map
 pub mod Runs
+pub mod LentRuns

@@ -1,13 +1,11 @@
 -- 01, The load buffer: "From a new buffer, any run of calls answers as a map would, kept in this order."
 use Rattle.std.specs.Prelude.{ℕ, List, [], ◌∷◌, ◌++◌, map, eqb, length, drop}
+use Rattle.refusal.specs.Numbers as Numbers
 use Rattle.spatial.specs.declared.Wrench.{Wrench}
 use Rattle.buffer.specs.declared.Stored.{Stored}
 use Rattle.buffer.specs.declared.LoadBuffer.{LoadBuffer}
-use Rattle.buffer.specs.declared.Counted.{Counted}
-use Rattle.buffer.specs.declared.Emptiness.{Emptiness}
-use Rattle.buffer.specs.declared.Listed.{Listed}
-use Rattle.loads.specs.Checks.{or_else, accepted, link_id, link_number, finiteness, input_number, sum_number, list_length, length_number}
-use Rattle.buffer.specs.Calls.{set_of, add_of, remove_of, clear_of, len_of, is_empty_of, load_of, blank_table, list_of}
+use Rattle.loads.specs.Checks.{or_else, accepted, link_checked, wrench_checked, sum_checked, list_checked}
+use Rattle.buffer.specs.Calls.{Counted, Emptiness, Listed, set_of, add_of, remove_of, clear_of, len_of, is_empty_of, load_of, blank_table, list_of}
 use Rattle.buffer.specs.Map.{map_set, map_added, map_remove}
 
 pub data Call : Type 0 where
@@ -58,18 +56,18 @@ last_of b (c ∷ cs) = last_of (after_of b c) cs
 
 module _ (own links : ℕ) where
   abbrev pub set_refused : ℕ → ℕ → Wrench → ℕ
-  set_refused id l w = or_else (link_number (link_id own links id l)) (input_number (finiteness w))
+  set_refused id l w = or_else (Numbers.number (link_checked own links id l)) (Numbers.number (wrench_checked w))
 
   abbrev pub add_refused : List Stored → ℕ → ℕ → Wrench → ℕ
-  add_refused ss id l w = or_else (set_refused id l w) (sum_number (finiteness (map_added l w ss)))
+  add_refused ss id l w = or_else (set_refused id l w) (Numbers.number (sum_checked (map_added l w ss)))
 
   abbrev pub remove_refused : ℕ → ℕ → ℕ
-  remove_refused id l = link_number (link_id own links id l)
+  remove_refused id l = Numbers.number (link_checked own links id l)
 
   abbrev pub list_refused : List Stored → ℕ → ℕ
-  list_refused ss places = length_number (list_length (length ss) places)
+  list_refused ss places = Numbers.number (list_checked (length ss) places)
 
-  -- the map's size; its loads in order, in the table that `list` fills
+  -- the map's size; its loads in order, in a blank table
   unfoldable pub map_answer : List Stored → Call → Answer
   map_answer ss (set id l w) = number (set_refused id l w)
   map_answer ss (add id l w) = number (add_refused ss id l w)

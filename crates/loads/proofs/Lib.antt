@@ -2,4 +2,3 @@ pub mod CheckLaws
 pub mod SumLaws
 pub mod When
 pub mod LinkSums
-pub mod TableSums

@@ -15,8 +15,8 @@ use Rattle.spatial.specs.Past.{no_wrench}
 use Rattle.spatial.specs.Wrenches.{wrench_sum}
 use Rattle.spatial.proofs.BoolLaws.{by_bool, same_or_not}
 use Rattle.loads.specs.declared.Load.{Load}
-use Rattle.loads.specs.declared.LoadSums.{LoadSums}
-use Rattle.loads.specs.Checks.{accepted, amount}
+use Rattle.loads.specs.Sums.{LoadSums}
+use Rattle.loads.specs.Checks.{accepted, amount_checked}
 use Rattle.loads.specs.Sums.{start_sums, sum_at, sum_step, sum_from, load_sums, prepared_sums}
 use Rattle.loads.proofs.When.{stays}
 
@@ -63,7 +63,7 @@ module _ (id links l : ℕ) where
 
 -- "Load sums start at +0 and go in list order, link by link"
 pub link_sum : (id links : ℕ) (ls : List Load) → (prepared_sums id links ls).number ≡ 0 → (l : ℕ) → l < 64 → get_or (prepared_sums id links ls).sums l no_wrench ≡ foldl wrench_sum zero_wrench (flat_map (λ (k : Load). cond (eqb k.link l) (k.wrench ∷ []) []) ls)
-unfolding prepared_sums amount
+unfolding prepared_sums amount_checked
 link_sum id links ls e l h =
     ⊎_elim
     (λ few. rw few (start_sum id links l h ls (rw few at e)))

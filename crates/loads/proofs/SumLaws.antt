@@ -6,21 +6,19 @@ use mathlib.Core.Logic.{⊎_elim}
 use native.Mathlib.Omega.{arith}
 use native.Mathlib.Numerals.{add-one}
 use lib.Ieee.{Float}
-use lib.Dec.{leb}
-use lib.ListN.{length, get_or, set, take, length-append}
-use lib.Seq.{take_all, take-length, take-suc, take-suc-set}
-use Rattle.spatial.proofs.BoolLaws.{by_bool, upto}
+use Rattle.std.proofs.Common.{Result, Ok, Err}
+use lib.ListN.{length, get_or, set, take, drop, length-append, take-append-drop}
+use lib.Seq.{take_all, take-suc}
+use Rattle.spatial.proofs.BoolLaws.{upto}
 use Rattle.spatial.specs.declared.Wrench.{Wrench}
-use Rattle.spatial.specs.Past.{no_wrench}
 use Rattle.loads.specs.declared.Load.{Load}
-use Rattle.loads.specs.declared.LoadSums.{LoadSums}
-use Rattle.loads.specs.declared.LinkId.TheVariants.{Known, Unknown}
-use Rattle.loads.specs.declared.Finiteness.TheVariants.{Finite, NonFinite}
-use Rattle.loads.specs.declared.Length.{Length}
-use Rattle.loads.specs.declared.Length.TheVariants.{Right, Wrong}
-use Rattle.loads.specs.declared.Amount.TheVariants.{Few, Many}
-use Rattle.loads.specs.Checks.{link_id, finiteness, table_length, amount}
-use Rattle.loads.specs.Sums.{start_sums, sum_at, sum_step, sum_from, load_sums, prepared_sums, walk_start, walk_count, load_at, table_loads, flat_sums}
+use Rattle.loads.specs.Sums.{LoadSums}
+use Rattle.refusal.specs.declared.Refusal.{Refusal}
+use Rattle.refusal.specs.Numbers.{number_of}
+use Rattle.refusal.proofs.Unique.{refused}
+use Rattle.loads.specs.Checks.{link_checked, wrench_checked, sum_checked, table_checked, amount_checked}
+use Rattle.loads.proofs.CheckLaws.{stands, left_alone}
+use Rattle.loads.specs.Sums.{summed, start_sums, sum_at, sum_step, sum_from, load_sums, prepared_sums, no_load, before, load_at, table_loads, flat_sums}
 
 -- a refusal number in place of another
 abbrev pub numbered : ℕ → LoadSums → LoadSums
@@ -40,27 +38,39 @@ module _ (id links : ℕ) (s : LoadSums) (l : Load) where
       go (suc n) e = kept_at n e
 
   module _ (e : s.number ≡ 0) where
-    pub step_unknown : link_id id links l.id l.link ≡ Unknown → sum_step id links s l ≡ numbered 6 s
+    pub step_unknown : (r : Refusal) → link_checked id links l.id l.link ≡ Err r → sum_step id links s l ≡ numbered (number_of r) s
     unfolding sum_step
-    step_unknown h = simp (e, h)
+    step_unknown r h = simp (e, h, stands, left_alone)
 
-    module _ (k : link_id id links l.id l.link ≡ Known) where
-      pub step_infinite : finiteness l.wrench ≡ NonFinite → sum_step id links s l ≡ numbered 5 s
+    module _ (k : link_checked id links l.id l.link ≡ Ok tt) where
+      pub step_infinite : (r : Refusal) → wrench_checked l.wrench ≡ Err r → sum_step id links s l ≡ numbered (number_of r) s
       unfolding sum_step
-      step_infinite h = simp (e, k, h)
+      step_infinite r h = simp (e, k, h, stands, left_alone)
 
-      module _ (f : finiteness l.wrench ≡ Finite) where
-        pub step_failed : finiteness (sum_at s l) ≡ NonFinite → sum_step id links s l ≡ numbered 7 s
+      module _ (f : wrench_checked l.wrench ≡ Ok tt) where
+        pub step_failed : (r : Refusal) → sum_checked (sum_at s l) ≡ Err r → sum_step id links s l ≡ numbered (number_of r) s
         unfolding sum_step
-        step_failed h = simp (e, k, f, h)
+        step_failed r h = simp (e, k, f, h, left_alone)
 
-        pub step_taken : finiteness (sum_at s l) ≡ Finite → sum_step id links s l ≡ record { number = s.number; sums = set s.sums l.link (sum_at s l) }
+        pub step_taken : sum_checked (sum_at s l) ≡ Ok tt → sum_step id links s l ≡ record { number = s.number; sums = set s.sums l.link (sum_at s l) }
         unfolding sum_step
         step_taken h = simp (e, k, f, h)
+
+before_some : (n : ℕ) (s : LoadSums) → (n ≡ 0 → ⊥) → before n s ≡ numbered n start_sums
+before_some zero s h = absurd (h refl)
+before_some (suc n) s h = refl
+
+before_refused : (r : Refusal) (s : LoadSums) → before (number_of r) s ≡ numbered (number_of r) start_sums
+before_refused r s = before_some (number_of r) s (refused r)
 
 pub start_number : start_sums.number ≡ 0
 unfolding start_sums
 start_number = refl
+
+-- sums that nothing is added to yet
+pub begun : (sums : List Wrench) → sums ≡ start_sums.sums → summed (Ok tt) sums ≡ start_sums
+unfolding start_sums
+begun sums e = rw e refl
 
 pub sum_append : (id links : ℕ) (s : LoadSums) (ls : List Load) (l : Load) → sum_from id links s (ls ++ (l ∷ [])) ≡ sum_step id links (sum_from id links s ls) l
 unfolding sum_from
@@ -95,39 +105,78 @@ module _ (id count : ℕ) (ids links : List ℕ) (ws : List Float) where
   length_table zero = refl
   length_table (suc n) = length-append (table_loads ids links ws n) (load_at ids links ws n ∷ []) ∙ rw (length_table n) (add-one n)
 
-  pub flat_wrong : table_length (length ids) (length links) (length ws) ≡ Wrong → flat_sums id count ids links ws ≡ numbered 3 start_sums
+  pub flat_wrong : (r : Refusal) → table_checked (length ids) (length links) (length ws) ≡ Err r → flat_sums id count ids links ws ≡ numbered (number_of r) start_sums
   unfolding flat_sums
-  flat_wrong h = simp h
+  flat_wrong r h = simp (h, before_refused)
 
-  module _ (h : table_length (length ids) (length links) (length ws) ≡ Right) where
-    pub flat_many : amount (length ids) ≡ Many → flat_sums id count ids links ws ≡ numbered 10 start_sums
+  module _ (h : table_checked (length ids) (length links) (length ws) ≡ Ok tt) where
+    pub flat_many : (r : Refusal) → amount_checked (length ids) ≡ Err r → flat_sums id count ids links ws ≡ numbered (number_of r) start_sums
     unfolding flat_sums prepared_sums
-    flat_many m = simp (h, length_table, m)
+    flat_many r m = simp (h, length_table, m, before_refused)
 
-    pub flat_swept : amount (length ids) ≡ Few → flat_sums id count ids links ws ≡ swept (length ids)
+    pub flat_swept : amount_checked (length ids) ≡ Ok tt → flat_sums id count ids links ws ≡ swept (length ids)
     unfolding flat_sums prepared_sums load_sums
     flat_swept m = simp (h, length_table, m)
+
+    -- one load of the table, after sums s of those before it
+    module _ (m : amount_checked (length ids) ≡ Ok tt) (i : ℕ) (inside : i < length ids) (s : LoadSums) (same : s ≡ swept i) where
+      abbrev l : Load
+      l = load_at ids links ws i
+
+      -- it is refused
+      pub flat_stops : (r : Refusal) (sums : List Wrench) → summed (Err r) sums ≡ sum_step id count s l → summed (Err r) sums ≡ flat_sums id count ids links ws
+      flat_stops r sums e =
+          sym
+          (flat_swept m
+          ∙ swept_stops i (length ids) (summed (Err r) sums) inside (swept_more i ∙ ap (λ (t : LoadSums). sum_step id count t l) (sym same) ∙ sym e) (refused r))
 
   -- an accepted table's sums are those of the loads that it means
   pub flat_prepared : (flat_sums id count ids links ws).number ≡ 0 → flat_sums id count ids links ws ≡ prepared_sums id count (table_loads ids links ws (length ids))
   unfolding flat_sums
-  flat_prepared e = go (table_length (length ids) (length links) (length ws)) refl
+  flat_prepared e = go (table_checked (length ids) (length links) (length ws)) refl
     where
-      go : (a : Length) → table_length (length ids) (length links) (length ws) ≡ a → flat_sums id count ids links ws ≡ prepared_sums id count (table_loads ids links ws (length ids))
-      go Right h = rw h
-      go Wrong h = absurd (let q = rw h at e in omega arith)
+      go : (a : Result Unit Refusal) → table_checked (length ids) (length links) (length ws) ≡ a → flat_sums id count ids links ws ≡ prepared_sums id count (table_loads ids links ws (length ids))
+      go (Ok u) h = rw h
+      go (Err r) h = absurd (refused r (sym (ap (λ (t : LoadSums). t.number) (flat_wrong r h)) ∙ e))
 
--- ---- a walk over a lent table
+-- ---- a list that is not too long
 
-pub walk_prepares : (id links : ℕ) (ls : List Load) → sum_from id links (walk_start (length ls)) (take (walk_count (length ls)) ls) ≡ prepared_sums id links ls
-unfolding prepared_sums load_sums sum_from amount
-walk_prepares id links ls =
-    ⊎_elim (λ h. rw h (ap (sum_from id links start_sums) (take-length ls))) (λ h. rw h) (by_bool (leb (length ls) 256))
+pub many_loads : (id links : ℕ) (ls : List Load) (r : Refusal) → amount_checked (length ls) ≡ Err r → prepared_sums id links ls ≡ numbered (number_of r) start_sums
+unfolding prepared_sums
+many_loads id links ls r h = simp (h, before_refused)
 
--- ---- a list that is stored from the front
+pub walked : (id links : ℕ) (ls : List Load) (i : ℕ) → amount_checked (length ls) ≡ Ok tt → length ls ≤ i → sum_from id links start_sums (take i ls) ≡ prepared_sums id links ls
+unfolding prepared_sums load_sums
+walked id links ls i h e = rw (h, take_all i ls e) refl
 
-pub taken_more : (n : ℕ) (xs ys zs : List Wrench) → n < length xs → n < length ys → take n ys ≡ take n xs → zs ≡ set ys n (get_or xs n no_wrench) → take (n + 1) zs ≡ take (n + 1) xs
-taken_more n xs ys zs p q h e = rw (add-one, e) (take-suc-set ys n (get_or xs n no_wrench) q ∙ ap (λ (t : List Wrench). t ++ (get_or xs n no_wrench ∷ [])) h ∙ sym (take-suc xs n no_wrench p))
+-- the sums of a list's first loads
+pub summed_none : (id links : ℕ) (s : LoadSums) → sum_from id links s [] ≡ s
+unfolding sum_from
+summed_none id links s = refl
 
-pub taken_all : (k : ℕ) (xs ys : List Wrench) → length ys ≡ k → length xs ≡ k → (n : ℕ) → k ≤ n → take n ys ≡ take n xs → ys ≡ xs
-taken_all k xs ys p q n l h = sym (take_all n ys (omega arith)) ∙ h ∙ take_all n xs (omega arith)
+pub summed_more : (id links : ℕ) (s : LoadSums) (ls : List Load) (i : ℕ) → i < length ls → sum_from id links s (take (i + 1) ls) ≡ sum_step id links (sum_from id links s (take i ls)) (get_or ls i no_load)
+summed_more id links s ls i h = rw add-one (ap (sum_from id links s) (take-suc ls i no_load h) ∙ sum_append id links s (take i ls) (get_or ls i no_load))
+
+-- the load that is refused decides
+kept_on : (id links : ℕ) (s : LoadSums) (ls : List Load) → (s.number ≡ 0 → ⊥) → sum_from id links s ls ≡ s
+unfolding sum_from
+kept_on id links s [] h = refl
+kept_on id links s (l ∷ ls) h = rw (step_kept id links s l h) (kept_on id links s ls h)
+
+sum_both : (id links : ℕ) (s : LoadSums) (ls ms : List Load) → sum_from id links s (ls ++ ms) ≡ sum_from id links (sum_from id links s ls) ms
+unfolding sum_from
+sum_both id links s [] ms = refl
+sum_both id links s (l ∷ ls) ms = sum_both id links (sum_step id links s l) ls ms
+
+pub walk_stops : (id links : ℕ) (ls : List Load) (i : ℕ) (s : LoadSums) (r : Refusal) (sums : List Wrench) → amount_checked (length ls) ≡ Ok tt → i < length ls → s ≡ sum_from id links start_sums (take i ls) → summed (Err r) sums ≡ sum_step id links s (get_or ls i no_load) → summed (Err r) sums ≡ prepared_sums id links ls
+unfolding prepared_sums load_sums
+walk_stops id links ls i s r sums h l same e =
+    let t : LoadSums = summed (Err r) sums in
+    let here : sum_from id links start_sums (take (i + 1) ls) ≡ t =
+    summed_more id links start_sums ls i l ∙ ap (λ (x : LoadSums). sum_step id links x (get_or ls i no_load)) (sym same) ∙ sym e in
+    let whole : sum_from id links start_sums ls ≡ t =
+    ap (sum_from id links start_sums) (sym (take-append-drop (i + 1) ls))
+    ∙ sum_both id links start_sums (take (i + 1) ls) (drop (i + 1) ls)
+    ∙ ap (λ (x : LoadSums). sum_from id links x (drop (i + 1) ls)) here
+    ∙ kept_on id links t (drop (i + 1) ls) (refused r) in
+    rw h (sym whole)

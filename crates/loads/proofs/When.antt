@@ -12,8 +12,11 @@ use borrow.Author.Tests.{ltb-true, leb-true, leb-false, eqb-true, lt-ltb, le-leb
 use Rattle.fit.specs.Finite.{all_finite, wrench_numbers}
 use Rattle.spatial.proofs.BoolLaws.{and_both, and_left, and_right, by_bool}
 use Rattle.loads.specs.declared.Load.{Load}
-use Rattle.loads.specs.declared.LoadSums.{LoadSums}
-use Rattle.loads.specs.Checks.{or_else, link_id_of, link_number, finiteness_of, input_number, sum_number, link_id, finiteness, amount, table_length}
+use Rattle.loads.specs.Sums.{LoadSums}
+use Rattle.refusal.specs.declared.Refusal.TheVariants.{InvalidLinkId, NonFiniteInput, NonFiniteLoadSum}
+use Rattle.refusal.specs.Numbers as Numbers
+use Rattle.refusal.specs.Numbers.{unless}
+use Rattle.loads.specs.Checks.{or_else, link_checked, wrench_checked, sum_checked, amount_checked, table_checked}
 use Rattle.loads.specs.Sums.{sum_at, sum_step, sum_from, start_sums, load_sums, prepared_sums, table_loads, flat_sums}
 use Rattle.loads.specs.When.{TooMany, load_in, Turn, OfModel, Unknown, NotFinite, SumNotFinite, Fitting, LoadsNumber}
 use Rattle.loads.proofs.SumLaws.{step_kept, start_number}
@@ -21,7 +24,7 @@ use Rattle.loads.proofs.SumLaws.{step_kept, start_number}
 -- ---- one load: its three tests decide the number
 
 unfoldable chosen : Bool → Bool → Bool → ℕ
-chosen a b c = or_else (link_number (link_id_of a)) (or_else (input_number (finiteness_of b)) (sum_number (finiteness_of c)))
+chosen a b c = or_else (Numbers.number (unless a InvalidLinkId)) (or_else (Numbers.number (unless b NonFiniteInput)) (Numbers.number (unless c NonFiniteLoadSum)))
 
 is_six : (a b c : Bool) → (chosen a b c ≡ 6 → a ≡ false) × (a ≡ false → chosen a b c ≡ 6)
 unfolding chosen
@@ -75,7 +78,7 @@ module _ (id links : ℕ) where
   next s l = (sum_step id links s l).number
 
   next_is : (s : LoadSums) (l : Load) → s.number ≡ 0 → next s l ≡ chosen (known l) (all_finite (wrench_numbers l.wrench)) (all_finite (wrench_numbers (sum_at s l)))
-  unfolding sum_step link_id finiteness chosen
+  unfolding sum_step link_checked wrench_checked sum_checked chosen
   next_is s l z = rw z
 
   -- ---- the law of a list: the first load that refuses decides
@@ -118,11 +121,11 @@ module _ (id links : ℕ) (ls : List Load) where
   number = (prepared_sums id links ls).number
 
   few_is : leb (length ls) 256 ≡ true → number ≡ (load_sums id links ls).number
-  unfolding prepared_sums amount
+  unfolding prepared_sums amount_checked
   few_is h = rw (number, h)
 
   many_is : leb (length ls) 256 ≡ false → number ≡ 10
-  unfolding prepared_sums amount
+  unfolding prepared_sums amount_checked
   many_is h = rw (number, h)
 
   -- what the tests of load i say, after those before it
@@ -220,11 +223,11 @@ module _ (id count : ℕ) (ids links : List ℕ) (ws : List Float) where
   listed = table_loads ids links ws (length ids)
 
   fitting : fits ≡ true → (flat_sums id count ids links ws).number ≡ (prepared_sums id count listed).number
-  unfolding flat_sums table_length
+  unfolding flat_sums table_checked
   fitting h = rw h
 
   unfitting : fits ≡ false → (flat_sums id count ids links ws).number ≡ 3
-  unfolding flat_sums table_length
+  unfolding flat_sums table_checked
   unfitting h = rw h
 
   -- "3: a .. lent table has the wrong length"

@@ -1,17 +1,10 @@
--- 01, Refusal numbers and their order: what each check finds, and the number of each answer.
-use Rattle.std.specs.Prelude.{ℕ, zero, suc, ◌*◌, Bool, true, false, ◌&&◌, ltb, leb, eqb}
+-- What each check of a load or of a list of loads answers, and how refusal numbers follow one another.
+use Rattle.std.specs.Prelude.{ℕ, zero, suc, ◌*◌, ◌&&◌, ltb, leb, eqb, Result}
+use Rattle.refusal.specs.declared.Refusal.{Refusal}
+use Rattle.refusal.specs.declared.Refusal.TheVariants.{InvalidModel, WrongLength, NonFiniteInput, InvalidLinkId, NonFiniteLoadSum, TooManyLoads}
+use Rattle.refusal.specs.Numbers.{unless}
 use Rattle.spatial.specs.declared.Wrench.{Wrench}
 use Rattle.fit.specs.Finite.{all_finite, wrench_numbers}
-use Rattle.loads.specs.declared.LinkCount.{LinkCount}
-use Rattle.loads.specs.declared.LinkCount.TheVariants.{Allowed, Refused}
-use Rattle.loads.specs.declared.LinkId.{LinkId}
-use Rattle.loads.specs.declared.LinkId.TheVariants.{Known, Unknown}
-use Rattle.loads.specs.declared.Finiteness.{Finiteness}
-use Rattle.loads.specs.declared.Finiteness.TheVariants.{Finite, NonFinite}
-use Rattle.loads.specs.declared.Length.{Length}
-use Rattle.loads.specs.declared.Length.TheVariants.{Right, Wrong}
-use Rattle.loads.specs.declared.Amount.{Amount}
-use Rattle.loads.specs.declared.Amount.TheVariants.{Few, Many}
 
 -- the first of two refusals; 0 is none
 abbrev pub or_else : ℕ → ℕ → ℕ
@@ -23,68 +16,30 @@ abbrev pub accepted : {A : Type 0} → ℕ → A → A → A
 accepted zero new old = new
 accepted (suc n) new old = old
 
-abbrev pub link_count_of : Bool → LinkCount
-link_count_of true = Allowed
-link_count_of false = Refused
+-- "1: a new buffer's link count is not 1 to 64"
+unfoldable pub links_checked : ℕ → Result Unit Refusal
+links_checked n = unless (leb 1 n && leb n 64) InvalidModel
 
-unfoldable pub link_count : ℕ → LinkCount
-link_count n = link_count_of (leb 1 n && leb n 64)
-
-abbrev pub link_id_of : Bool → LinkId
-link_id_of true = Known
-link_id_of false = Unknown
-
--- a link is a model's where it is below the link count, which is at most 64
-unfoldable pub link_id : ℕ → ℕ → ℕ → ℕ → LinkId
-link_id own links id link = link_id_of (eqb id own && (ltb link links && ltb link 64))
-
--- "6: a load's id or link is not the model's"
-abbrev pub link_number : LinkId → ℕ
-link_number Known = 0
-link_number Unknown = 6
-
-abbrev pub finiteness_of : Bool → Finiteness
-finiteness_of true = Finite
-finiteness_of false = NonFinite
-
-unfoldable pub finiteness : Wrench → Finiteness
-finiteness w = finiteness_of (all_finite (wrench_numbers w))
+-- "6: a load's id or link is not the model's": a link is a model's where it is below the link count, which is at most 64
+unfoldable pub link_checked : ℕ → ℕ → ℕ → ℕ → Result Unit Refusal
+link_checked own links id link = unless (eqb id own && (ltb link links && ltb link 64)) InvalidLinkId
 
 -- "5: a position, speed, acceleration or load is not finite"
-abbrev pub input_number : Finiteness → ℕ
-input_number Finite = 0
-input_number NonFinite = 5
+unfoldable pub wrench_checked : Wrench → Result Unit Refusal
+wrench_checked w = unless (all_finite (wrench_numbers w)) NonFiniteInput
 
 -- "7: a load sum is not finite"
-abbrev pub sum_number : Finiteness → ℕ
-sum_number Finite = 0
-sum_number NonFinite = 7
+unfoldable pub sum_checked : Wrench → Result Unit Refusal
+sum_checked w = unless (all_finite (wrench_numbers w)) NonFiniteLoadSum
 
-abbrev pub length_of : Bool → Length
-length_of true = Right
-length_of false = Wrong
+-- "3: a list, output or lent table has the wrong length": a load table in three parts has as many links as ids, and six numbers each
+unfoldable pub table_checked : ℕ → ℕ → ℕ → Result Unit Refusal
+table_checked ids links numbers = unless (eqb links ids && eqb numbers (6 * ids)) WrongLength
 
--- a load table in three parts: as many links as ids, and six numbers each
-unfoldable pub table_length : ℕ → ℕ → ℕ → Length
-table_length ids links numbers = length_of (eqb links ids && eqb numbers (6 * ids))
-
--- a lent table with a place for each load
-unfoldable pub list_length : ℕ → ℕ → Length
-list_length count places = length_of (leb count places)
-
--- "3: a list, output or lent table has the wrong length"
-abbrev pub length_number : Length → ℕ
-length_number Right = 0
-length_number Wrong = 3
-
-abbrev pub amount_of : Bool → Amount
-amount_of true = Few
-amount_of false = Many
-
-unfoldable pub amount : ℕ → Amount
-amount n = amount_of (leb n 256)
+-- and a lent table has a place for each load
+unfoldable pub list_checked : ℕ → ℕ → Result Unit Refusal
+list_checked count places = unless (leb count places) WrongLength
 
 -- "10: more than 256 loads"
-abbrev pub amount_number : Amount → ℕ
-amount_number Few = 0
-amount_number Many = 10
+unfoldable pub amount_checked : ℕ → Result Unit Refusal
+amount_checked n = unless (leb n 256) TooManyLoads

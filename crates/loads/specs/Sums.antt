@@ -1,13 +1,23 @@
 -- 01: "Load sums start at +0 and go in list order, link by link"; "loads in turn, each 6, 5, 7".
-use Rattle.std.specs.Prelude.{ℕ, zero, suc, List, [], ◌∷◌, ◌++◌, Float, length, get_or, set, replicate}
+use Rattle.std.specs.Prelude.{ℕ, zero, suc, List, [], ◌∷◌, ◌++◌, Float, length, get_or, set, replicate, Result}
 use Rattle.spatial.specs.declared.Wrench.{Wrench}
 use Rattle.spatial.specs.Constants.{zero_wrench}
 use Rattle.spatial.specs.Past.{no_wrench}
 use Rattle.spatial.specs.Tables.{wrench_at}
 use Rattle.spatial.specs.Wrenches.{wrench_sum}
 use Rattle.loads.specs.declared.Load.{Load}
-use Rattle.loads.specs.declared.LoadSums.{LoadSums}
-use Rattle.loads.specs.Checks.{or_else, accepted, link_id, link_number, finiteness, input_number, sum_number, amount, amount_number, table_length, length_number}
+use Rattle.refusal.specs.Numbers.{number}
+use Rattle.refusal.specs.declared.Refusal.{Refusal}
+use Rattle.loads.specs.Checks.{or_else, accepted, link_checked, wrench_checked, sum_checked, amount_checked, table_checked}
+
+-- a refusal number, 0 for none, and each link's load sum
+pub record LoadSums : Type 0 where
+  pub number : ℕ
+  pub sums : List Wrench
+
+-- what adding loads answers, and the sums after it
+abbrev pub summed : Result Unit Refusal → List Wrench → LoadSums
+summed answer sums = record { number = number answer; sums = sums }
 
 -- "starting at +0", all 64 places, nothing refused
 unfoldable pub start_sums : LoadSums
@@ -25,7 +35,7 @@ sum_at s l = wrench_sum (get_or s.sums l.link no_wrench) l.wrench
 abbrev pub step_number : ℕ → ℕ → LoadSums → Load → ℕ
 step_number id links s l =
     or_else s.number
-    (or_else (link_number (link_id id links l.id l.link)) (or_else (input_number (finiteness l.wrench)) (sum_number (finiteness (sum_at s l)))))
+    (or_else (number (link_checked id links l.id l.link)) (or_else (number (wrench_checked l.wrench)) (number (sum_checked (sum_at s l)))))
 
 -- one load more; a refusal changes no sum
 unfoldable pub sum_step : ℕ → ℕ → LoadSums → Load → LoadSums
@@ -50,14 +60,7 @@ before (suc n) s = record { number = suc n; sums = start_sums.sums }
 
 -- "10; loads in turn"
 unfoldable pub prepared_sums : ℕ → ℕ → List Load → LoadSums
-prepared_sums id links ls = before (amount_number (amount (length ls))) (load_sums id links ls)
-
--- where a walk over a lent table of so many loads starts, and how many it takes: none after the refusal 10
-abbrev pub walk_start : ℕ → LoadSums
-walk_start n = before (amount_number (amount n)) start_sums
-
-abbrev pub walk_count : ℕ → ℕ
-walk_count n = accepted (amount_number (amount n)) n 0
+prepared_sums id links ls = before (number (amount_checked (length ls))) (load_sums id links ls)
 
 abbrev pub load_at : List ℕ → List ℕ → List Float → ℕ → Load
 load_at ids links ws i = record { id = get_or ids i 0; link = get_or links i 0; wrench = wrench_at ws i }
@@ -70,5 +73,5 @@ table_loads ids links ws (suc n) = table_loads ids links ws n ++ (load_at ids li
 -- the sums of a table in three parts: 3 before 10
 unfoldable pub flat_sums : ℕ → ℕ → List ℕ → List ℕ → List Float → LoadSums
 flat_sums id count ids links ws =
-    before (length_number (table_length (length ids) (length links) (length ws)))
+    before (number (table_checked (length ids) (length links) (length ws)))
     (prepared_sums id count (table_loads ids links ws (length ids)))

@@ -1,81 +1,91 @@
-// The checks of a load, each with its answer by cases.
+// The checks of a load and of a list of loads: what each accepts, and its refusal.
 ghost use Rattle.std.specs.Prelude.{◌≡◌};
-ghost use Rattle.loads.specs.Checks.{link_count, link_id, finiteness, table_length, list_length, amount};
+ghost use Rattle.loads.specs.Checks.{links_checked, link_checked, wrench_checked, sum_checked, table_checked, list_checked, amount_checked};
 
-use crate::{Amount, Finiteness, Length, LinkCount, LinkId};
 use fit::finite::finite_wrench;
+use refusal::Refusal;
 use spatial::Wrench;
 
-// A link count of 1 to 64.
-#[tactic(auto, unfolding(crate::specs::Checks::link_count))]
-pub fn check_links(n: usize) -> LinkCount
-    ensures { result ≡ link_count n }
+/// Accepts a link count of 1 to 64.
+#[tactic(auto, unfolding(crate::specs::Checks::links_checked))]
+pub fn check_links(n: usize) -> Result<(), Refusal>
+    ensures { result ≡ links_checked n }
 {
-    if 1 <= n {
-        if n <= 64 {
-            return LinkCount::Allowed;
-        }
-    }
-    LinkCount::Refused
-}
-
-// Whether an id and a link are those of a model with the id `own` and so many links.
-#[tactic(auto, unfolding(crate::specs::Checks::link_id))]
-pub fn check_link(own: u64, links: usize, id: u64, link: usize) -> LinkId
-    ensures { result ≡ link_id own links id link }
-{
-    if id == own {
-        if link < links {
-            if link < 64 {
-                return LinkId::Known;
-            }
-        }
-    }
-    LinkId::Unknown
-}
-
-// All six numbers of a wrench.
-pub fn check_wrench(w: Wrench) -> Finiteness
-    ensures { result ≡ finiteness w }
-{
-    if finite_wrench(w) {
-        Finiteness::Finite
+    if 1 <= n && n <= 64 {
+        Ok(())
     } else {
-        Finiteness::NonFinite
+        Err(Refusal::InvalidModel)
     }
 }
 
-// A load table in three parts: so many ids, links and numbers.
-#[tactic(auto, unfolding(crate::specs::Checks::table_length))]
-pub fn check_table(ids: usize, links: usize, numbers: usize) -> Length
-    ensures { result ≡ table_length ids links numbers }
+/// Accepts an id and a link of a model with the id `own` and so many links, of which 64 count.
+#[tactic(auto, unfolding(crate::specs::Checks::link_checked))]
+pub fn check_link(own: u64, links: usize, id: u64, link: usize) -> Result<(), Refusal>
+    ensures { result ≡ link_checked own links id link }
 {
-    if links == ids {
-        if numbers / 6 == ids {
-            if numbers % 6 == 0 {
-                return Length::Right;
-            }
-        }
+    if id == own && link < links && link < 64 {
+        Ok(())
+    } else {
+        Err(Refusal::InvalidLinkId)
     }
-    Length::Wrong
 }
 
-// A table of so many places, for so many loads.
-#[tactic(auto, unfolding(crate::specs::Checks::list_length))]
-pub fn check_list(count: usize, places: usize) -> Length
-    ensures { result ≡ list_length count places }
+/// Accepts a load's wrench whose six numbers are finite.
+#[tactic(auto, unfolding(crate::specs::Checks::wrench_checked))]
+pub fn check_wrench(wrench: Wrench) -> Result<(), Refusal>
+    ensures { result ≡ wrench_checked wrench }
+{
+    if finite_wrench(wrench) {
+        Ok(())
+    } else {
+        Err(Refusal::NonFiniteInput)
+    }
+}
+
+/// Accepts a load sum whose six numbers are finite.
+#[tactic(auto, unfolding(crate::specs::Checks::sum_checked))]
+pub fn check_sum(sum: Wrench) -> Result<(), Refusal>
+    ensures { result ≡ sum_checked sum }
+{
+    if finite_wrench(sum) {
+        Ok(())
+    } else {
+        Err(Refusal::NonFiniteLoadSum)
+    }
+}
+
+/// Accepts a load table in three parts: as many links as ids, and six numbers each.
+#[tactic(auto, unfolding(crate::specs::Checks::table_checked))]
+pub fn check_table(ids: usize, links: usize, numbers: usize) -> Result<(), Refusal>
+    ensures { result ≡ table_checked ids links numbers }
+{
+    if links == ids && numbers / 6 == ids && numbers % 6 == 0 {
+        Ok(())
+    } else {
+        Err(Refusal::WrongLength)
+    }
+}
+
+/// Accepts a table with a place for each of so many loads.
+#[tactic(auto, unfolding(crate::specs::Checks::list_checked))]
+pub fn check_list(count: usize, places: usize) -> Result<(), Refusal>
+    ensures { result ≡ list_checked count places }
 {
     if count <= places {
-        Length::Right
+        Ok(())
     } else {
-        Length::Wrong
+        Err(Refusal::WrongLength)
     }
 }
 
-// At most 256 loads.
-#[tactic(auto, unfolding(crate::specs::Checks::amount))]
-pub fn check_amount(n: usize) -> Amount
-    ensures { result ≡ amount n }
+/// Accepts at most 256 loads.
+#[tactic(auto, unfolding(crate::specs::Checks::amount_checked))]
+pub fn check_amount(n: usize) -> Result<(), Refusal>
+    ensures { result ≡ amount_checked n }
 {
-    if n <= 256 { Amount::Few } else { Amount::Many }
+    if n <= 256 {
+        Ok(())
+    } else {
+        Err(Refusal::TooManyLoads)
+    }
 }

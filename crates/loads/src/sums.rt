@@ -1,205 +1,83 @@
 // Load sums.
-ghost use Rattle.std.specs.Prelude.{◌≡◌, ℕ, ◌<◌, ◌≤◌, length, get_or};
-ghost use Rattle.spatial.specs.Past.{no_wrench};
-ghost use Rattle.spatial.specs.Tables.{wrenches_in};
-ghost use Rattle.loads.specs.Sums.{no_load, start_sums, sum_step, prepared_sums, walk_start, walk_count, flat_sums};
+ghost use Rattle.std.specs.Prelude.{◌≡◌, ◌≤◌, ◌+◌, ◌*◌, ◌<◌, Ok, length};
+ghost use Rattle.loads.specs.Sums.{summed, start_sums, sum_step, load_at, prepared_sums, flat_sums};
 
-use crate::checks::{check_amount, check_link, check_table, check_wrench};
-use crate::{Amount, Finiteness, Length, LinkId, Load, LoadSums};
+use crate::checks::{check_amount, check_link, check_sum, check_table, check_wrench};
+use crate::{Load, LoadTable};
+use refusal::Refusal;
 use spatial::Wrench;
 use spatial::constants::zero_wrench;
-use spatial::tables::{put_wrench, wrench_at, zero_wrenches};
+use spatial::tables::wrench_at;
 use spatial::wrenches::add_wrench;
 
-// +0 at every link.
-pub fn start() -> LoadSums
-    ensures { result ≡ start_sums }
+/// +0 at every link.
+#[tactic(auto, unfolding(crate::specs::Sums::start_sums))]
+pub fn clear(sums: &mut [Wrench; 64])
+    ensures { sums.new ≡ start_sums.sums }
 {
-    let z = zero_wrench();
-    let t = [z; 64];
-    LoadSums { number: 0, sums: t }
+    *sums = [zero_wrench(); 64];
 }
 
-// The sums as they stand, with a refusal number.
-fn refused(s: LoadSums, number: u8) -> LoadSums
-    ensures { result ≡ record { number = number; sums = s.sums } }
+/// Adds a load to its link's sum, for a model with an id and so many links. A load that is refused changes no sum.
+#[tactic(auto, using(crate::proofs::CheckLaws::known_small, crate::proofs::SumLaws::step_unknown, crate::proofs::SumLaws::step_infinite, crate::proofs::SumLaws::step_failed, crate::proofs::SumLaws::step_taken))]
+pub fn add_load(id: u64, links: usize, load: Load, sums: &mut [Wrench; 64]) -> Result<(), Refusal>
+    ensures { summed result sums.new ≡ sum_step id links (summed (Ok tt) sums.old) load }
 {
-    let t = s.sums;
-    LoadSums { number, sums: t }
+    check_link(id, links, load.id, load.link)?;
+    check_wrench(load.wrench)?;
+    let total = add_wrench(sums[load.link], load.wrench);
+    check_sum(total)?;
+    sums[load.link] = total;
+    Ok(())
 }
 
-// One load more, of a model with an id and so many links.
-pub fn step(s: LoadSums, id: u64, links: usize, load: Load) -> LoadSums
-    ensures { result ≡ sum_step id links s load }
-{
-    if s.number != 0 {
-        return s;
-    }
-    let link = load.link;
-    let LinkId::Known = check_link(id, links, load.id, link) else {
-        return refused(s, 6);
-    };
-    let Finiteness::Finite = check_wrench(load.wrench) else {
-        return refused(s, 5);
-    };
-    let old = s.sums[link];
-    let total = add_wrench(old, load.wrench);
-    let Finiteness::Finite = check_wrench(total) else {
-        return refused(s, 7);
-    };
-    let mut next = s;
-    next.sums[link] = total;
-    next
-}
-
-// A load of a lent table, copied out.
-fn load_at(loads: &[Load], i: usize) -> Load
-    requires { i < length loads.now }
-    ensures { result ≡ get_or loads.now i no_load }
-{
-    loads[i]
-}
-
-// The sums of a table in three parts, six numbers a load.
-pub fn prepare_indexed_loads<'a>(
+/// The sums of a list of loads, up to the first that is refused, in a table whatever stood there.
+#[tactic(auto, using(crate::proofs::SumLaws::many_loads, crate::proofs::SumLaws::walk_stops, crate::proofs::SumLaws::walked, crate::proofs::SumLaws::summed_none, crate::proofs::SumLaws::summed_more))]
+pub fn sum_loads(
     id: u64,
-    count: usize,
-    ids: &'a [u64],
-    links: &'a [usize],
-    numbers: &'a [f64],
-) -> LoadSums
-    ensures { result ≡ flat_sums id count ids.now links.now numbers.now }
+    links: usize,
+    loads: &[Load],
+    sums: &mut [Wrench; 64],
+) -> Result<(), Refusal>
+    ensures { summed result sums.new ≡ prepared_sums id links loads.now }
 {
-    let mut s = start();
-    let Length::Right = check_table(ids.len(), links.len(), numbers.len()) else {
-        return refused(s, 3);
-    };
-    let Amount::Few = check_amount(ids.len()) else {
-        return refused(s, 10);
-    };
-    let mut i = 0;
-    while i < ids.len() {
-        let link = links[i];
-        let LinkId::Known = check_link(id, count, ids[i], link) else {
-            return refused(s, 6);
-        };
-        let w = wrench_at(numbers, i);
-        let Finiteness::Finite = check_wrench(w) else {
-            return refused(s, 5);
-        };
-        let old = s.sums[link];
-        let sum = add_wrench(old, w);
-        let Finiteness::Finite = check_wrench(sum) else {
-            return refused(s, 7);
-        };
-        s.sums[link] = sum;
-        i += 1;
+    clear(sums);
+    check_amount(loads.len())?;
+    for load in loads {
+        add_load(id, links, *load, sums)?;
     }
-    s
+    Ok(())
 }
 
-// How many of so many links have a place in a table of 64.
-fn places(count: usize) -> usize
-    ensures { (result ≤ count) × (result ≤ 64) × ((l : ℕ) → l < count → l < 64 → l < result) }
-{
-    if count < 64 {
-        return count;
+impl<'a> LoadTable<'a> {
+    // The load at a place.
+    fn load(&self, i: usize) -> Load
+        requires { (i < length self.now.ids.now) × (i < length self.now.links.now) × (6 * i + 6 ≤ length self.now.numbers.now) }
+        ensures { result ≡ load_at self.now.ids.now self.now.links.now self.now.numbers.now i }
+    {
+        Load {
+            id: self.ids[i],
+            link: self.links[i],
+            wrench: wrench_at(self.numbers, i),
+        }
     }
-    64
 }
 
-// The same in a lent table of 64 sums, six numbers each, for the links that there are; the refusal number is answered.
-pub fn sum_indexed_loads<'a>(
+/// The same of a table in three parts.
+#[tactic(auto, using(crate::proofs::CheckLaws::right_links, crate::proofs::CheckLaws::right_numbers, crate::proofs::SumLaws::swept_none, crate::proofs::SumLaws::swept_more, crate::proofs::SumLaws::flat_wrong, crate::proofs::SumLaws::flat_many, crate::proofs::SumLaws::flat_stops, crate::proofs::SumLaws::flat_swept))]
+pub fn prepare_indexed_loads(
     id: u64,
-    count: usize,
-    ids: &'a [u64],
-    links: &'a [usize],
-    numbers: &'a [f64],
-    sums: &mut [f64],
-) -> u8
-    requires { length sums.old ≡ 384 }
-    ensures { let s = flat_sums id count ids.now links.now numbers.now in (result ≡ s.number) × ((l : ℕ) → l < count → get_or (wrenches_in sums.new) l no_wrench ≡ get_or s.sums l no_wrench) }
+    links: usize,
+    loads: LoadTable,
+    sums: &mut [Wrench; 64],
+) -> Result<(), Refusal>
+    ensures { summed result sums.new ≡ flat_sums id links loads.entry.ids.now loads.entry.links.now loads.entry.numbers.now }
 {
-    zero_wrenches(sums, places(count));
-    let Length::Right = check_table(ids.len(), links.len(), numbers.len()) else {
-        return 3;
-    };
-    let Amount::Few = check_amount(ids.len()) else {
-        return 10;
-    };
-    let mut i = 0;
-    while i < ids.len() {
-        let link = links[i];
-        let LinkId::Known = check_link(id, count, ids[i], link) else {
-            return 6;
-        };
-        let w = wrench_at(numbers, i);
-        let Finiteness::Finite = check_wrench(w) else {
-            return 5;
-        };
-        let next = add_wrench(wrench_at(sums, link), w);
-        let Finiteness::Finite = check_wrench(next) else {
-            return 7;
-        };
-        put_wrench(sums, link, next);
-        i += 1;
+    clear(sums);
+    check_table(loads.ids.len(), loads.links.len(), loads.numbers.len())?;
+    check_amount(loads.ids.len())?;
+    for i in 0..loads.ids.len() {
+        add_load(id, links, loads.load(i), sums)?;
     }
-    0
-}
-
-// A table that is not filled yet: any numbers.
-pub fn no_sums() -> [f64; 384]
-    ensures { length result ≡ 384 }
-{
-    [0.0; 384]
-}
-
-// The sums of 64 links as a table of six numbers each.
-pub fn flat_sums(sums: [Wrench; 64]) -> [f64; 384]
-    ensures { (length result ≡ 384) × (wrenches_in result ≡ sums) }
-{
-    let mut table = no_sums();
-    let mut n = 0;
-    while n < 64 {
-        put_wrench(&mut table, n, sums[n]);
-        n += 1;
-    }
-    table
-}
-
-// Nothing refused yet, or the refusal 10, for so many loads.
-fn walk_start(len: usize) -> LoadSums
-    ensures { result ≡ walk_start len }
-{
-    let s = start();
-    let Amount::Few = check_amount(len) else {
-        return refused(s, 10);
-    };
-    s
-}
-
-// How many of so many loads are looked at.
-fn walk_count(len: usize) -> usize
-    ensures { (result ≡ walk_count len) × (result ≤ len) }
-{
-    let Amount::Few = check_amount(len) else {
-        return 0;
-    };
-    len
-}
-
-// The sums of a lent table of loads, walked once.
-pub fn sum_loads(loads: &[Load], id: u64, links: usize) -> LoadSums
-    ensures { result ≡ prepared_sums id links loads.now }
-{
-    let len = loads.len();
-    let n = walk_count(len);
-    let mut s = walk_start(len);
-    let mut k = 0;
-    while k < n {
-        let load = load_at(loads, k);
-        s = step(s, id, links, load);
-        k += 1;
-    }
-    s
+    Ok(())
 }

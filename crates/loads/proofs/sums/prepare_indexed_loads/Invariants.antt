@@ -1,11 +1,7 @@
-use Prim.Native.Nat.{◌-◌, ◌≤◌}
-use mathlib.Core.Path.{◌≡◌}
-use lib.ListN.{length}
+use Rattle.std.proofs.Common.{◌≡◌, Ok}
+use Rattle.loads.specs.Sums.{summed}
 use Rattle.loads.proofs.SumLaws.{swept}
 use Rattle.loads.proofs.sums.prepare_indexed_loads.Given as goal
 
 abbrev pub invariant-loop-i : goal.invariant-loop-i
-invariant-loop-i l = (l.i ≤ length l.ids) × (l.s.number ≡ 0) × (l.s ≡ swept l.id l.count l.ids l.links l.numbers l.i)
-
-abbrev pub decreases-loop-i : goal.decreases-loop-i
-decreases-loop-i l = length l.ids - l.i
+invariant-loop-i l = summed (Ok tt) l.sums ≡ swept l.id l.links l.loads.ids.now l.loads.links.now l.loads.numbers.now l.i

@@ -1,3 +1,0 @@
-pub mod Unique
-pub mod LentRuns
-mod Stored
