@@ -1,4 +1,3 @@
-pub mod SixLaws
 pub mod Worked
 pub mod RunLocal
 pub mod WorkedLocal

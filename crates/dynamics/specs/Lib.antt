@@ -3,6 +3,6 @@ pub mod Motions
 pub mod Weights
 pub mod Run
 pub mod Figures
-pub mod Flat
+pub mod Runs
 pub mod Output
 pub mod Same

@@ -12,6 +12,7 @@ use spatial::wrenches::world_wrench;
 use spatial::{Quaternion, Vector3, Wrench};
 
 // What a joint bears of the total at its link.
+#[tactic(auto, unfolding(crate::specs::Figures::figure))]
 fn figure(kind: JointType, w: Wrench, axis: Vector3) -> f64
     ensures { result ≡ figure kind w axis }
 {
@@ -22,7 +23,7 @@ fn figure(kind: JointType, w: Wrench, axis: Vector3) -> f64
     }
 }
 
-// A moving joint's figure, stored at its number.
+/// A moving joint's figure, stored at its number.
 pub fn put(joint: Joint, total: Wrench, output: &mut [f64])
     requires { moves joint.kind ≡ true → joint.number < length output.old }
     ensures { output.new ≡ put_of joint total output.old }
@@ -32,16 +33,13 @@ pub fn put(joint: Joint, total: Wrench, output: &mut [f64])
     let x = figure(kind, total, joint.axis);
     match kind {
         JointType::Fixed => {}
-        JointType::Revolute => {
-            output[number] = x;
-        }
-        JointType::Prismatic => {
+        JointType::Revolute | JointType::Prismatic => {
             output[number] = x;
         }
     }
 }
 
-// The root's wrench in world axes, in the first six places.
+/// The root's wrench in world axes, in the first six places.
 pub fn put_root(base: Quaternion, root: Wrench, output: &mut [f64])
     requires { 6 ≤ length output.old }
     ensures { output.new ≡ wrench_numbers (world_wrench base root) ++ drop 6 output.old }

@@ -9,7 +9,7 @@ pub mod weights;
 use spatial::Vector3;
 
 // A link's angular velocity, angular acceleration and linear acceleration, in its own axes at its origin.
-#[derive(Clone, Copy)]
+#[derive(Clone, Copy, Default)]
 pub struct Motion {
     pub omega: Vector3,
     pub alpha: Vector3,

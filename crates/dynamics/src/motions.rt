@@ -1,18 +1,17 @@
 // Motions from link to link, and the wrench that a link's motion takes.
 ghost use Rattle.std.specs.Prelude.{◌≡◌, true, ◌<◌, length};
-ghost use Rattle.model.specs.Flat.{link_at};
 ghost use Rattle.model.specs.View.{moves};
 ghost use Rattle.dynamics.specs.Motions.{root_motion, acceleration_at, carried, turning, sliding, driven, moved, inertial_wrench};
-ghost use Rattle.dynamics.specs.Flat.{value_in};
+ghost use Rattle.dynamics.specs.Runs.{value_in};
 
 use crate::Motion;
-use model::links::link_at;
 use model::{Joint, JointType, Link};
 use spatial::rotations::{inverse, rotate, to_rotation_matrix, transform};
 use spatial::vectors::{add, cross, scale};
 use spatial::{Frame, Quaternion, Twist, Vector3, Wrench};
 
-// The root's motion in its own axes, gravity with its linear acceleration.
+/// The root's motion in its own axes, gravity with its linear acceleration.
+#[tactic(auto, unfolding(crate::specs::Motions::root_motion))]
 pub fn root_motion(
     base: Quaternion,
     velocity: Twist,
@@ -30,6 +29,7 @@ pub fn root_motion(
 }
 
 // The acceleration of a point of a link.
+#[tactic(auto, unfolding(crate::specs::Motions::acceleration_at))]
 fn acceleration_at(m: Motion, p: Vector3) -> Vector3
     ensures { result ≡ acceleration_at m p }
 {
@@ -41,6 +41,7 @@ fn acceleration_at(m: Motion, p: Vector3) -> Vector3
 }
 
 // The parent's motion, in the child's axes at the child's origin.
+#[tactic(auto, unfolding(crate::specs::Motions::carried))]
 fn carried(frame: Frame, m: Motion) -> Motion
     ensures { result ≡ carried frame m }
 {
@@ -53,6 +54,7 @@ fn carried(frame: Frame, m: Motion) -> Motion
 }
 
 // What a revolute joint's speed and acceleration add.
+#[tactic(auto, unfolding(crate::specs::Motions::turning))]
 fn turning(axis: Vector3, v: f64, d: f64, m: Motion) -> Motion
     ensures { result ≡ turning axis v d m }
 {
@@ -80,6 +82,7 @@ fn sliding(axis: Vector3, v: f64, d: f64, m: Motion) -> Motion
     }
 }
 
+#[tactic(auto, unfolding(crate::specs::Motions::driven))]
 fn driven(kind: JointType, axis: Vector3, v: f64, d: f64, m: Motion) -> Motion
     ensures { result ≡ driven kind axis v d m }
 {
@@ -91,6 +94,7 @@ fn driven(kind: JointType, axis: Vector3, v: f64, d: f64, m: Motion) -> Motion
 }
 
 // A joint's step from its parent's motion.
+#[tactic(auto, unfolding(crate::specs::Motions::moved))]
 fn moved(frame: Frame, kind: JointType, axis: Vector3, v: f64, d: f64, m: Motion) -> Motion
     ensures { result ≡ moved frame kind axis v d m }
 {
@@ -98,18 +102,18 @@ fn moved(frame: Frame, kind: JointType, axis: Vector3, v: f64, d: f64, m: Motion
 }
 
 // A moving joint's number in a list; a fixed joint takes +0.
+#[tactic(auto, unfolding(crate::specs::Runs::value_in))]
 fn value_in(kind: JointType, number: usize, list: &[f64]) -> f64
     requires { moves kind ≡ true → number < length list.now }
     ensures { result ≡ value_in kind number list.now }
 {
     match kind {
         JointType::Fixed => 0.0,
-        JointType::Revolute => list[number],
-        JointType::Prismatic => list[number],
+        JointType::Revolute | JointType::Prismatic => list[number],
     }
 }
 
-// A joint's step, at its speed and acceleration in the lists.
+/// A joint's step, at its speed and acceleration in the lists.
 pub fn moved_in<'a>(
     joint: Joint,
     frame: Frame,
@@ -127,8 +131,10 @@ pub fn moved_in<'a>(
     moved(frame, kind, joint.axis, v, d, m)
 }
 
-// What a link's motion takes of its mass and inertia.
-fn inertial_wrench(link: Link, m: Motion) -> Wrench
+/// The wrench that a link's motion takes, by its mass and its inertia.
+#[inline(always)]
+#[tactic(auto, unfolding(crate::specs::Motions::inertial_wrench))]
+pub fn inertial_wrench(link: Link, m: Motion) -> Wrench
     ensures { result ≡ inertial_wrench link m }
 {
     let center = link.center;
@@ -140,35 +146,4 @@ fn inertial_wrench(link: Link, m: Motion) -> Wrench
         torque: add(add(cross(center, force), transform(inertia, m.alpha)), spin),
         force,
     }
-}
-
-pub fn inertial_wrench_at(links: &[f64], l: usize, m: Motion) -> Wrench
-    requires { (l < 64) × (length links.now ≡ 832) }
-    ensures { result ≡ inertial_wrench (link_at links.now l) m }
-{
-    let link = link_at(links, l);
-    inertial_wrench(link, m)
-}
-
-// The same for the root, in code of its own: shared by two calls, it would be inlined at neither.
-fn root_wrench(link: Link, m: Motion) -> Wrench
-    ensures { result ≡ inertial_wrench link m }
-{
-    let center = link.center;
-    let inertia = link.inertia;
-    let omega = m.omega;
-    let force = scale(acceleration_at(m, center), link.mass);
-    let spin = cross(omega, transform(inertia, omega));
-    Wrench {
-        torque: add(add(cross(center, force), transform(inertia, m.alpha)), spin),
-        force,
-    }
-}
-
-pub fn root_wrench_at(links: &[f64], m: Motion) -> Wrench
-    requires { length links.now ≡ 832 }
-    ensures { result ≡ inertial_wrench (link_at links.now 0) m }
-{
-    let link = link_at(links, 0);
-    root_wrench(link, m)
 }

@@ -10,23 +10,24 @@ use lib.Seq.{get_or-set_same, get_or-set_other}
 use lib.Ieee.{Float, nan}
 use Rattle.spatial.specs.Wrenches.{wrench_sum, wrench_to_parent}
 use Rattle.spatial.specs.declared.Frame.{Frame}
-use Rattle.spatial.specs.declared.Vector3.{Vector3}
 use Rattle.spatial.specs.declared.Wrench.{Wrench}
-use Rattle.tree.specs.Tree.{Outward, Inward, total_of, in_of}
+use Rattle.tree.specs.Tree.{Outward, Inward, climb, value_at, total_of, in_of}
 use Rattle.tree.proofs.SweepLaws.{values_first, values_next, sum_from, sum_end, total_now, sums_next, sum_from_root}
 use Rattle.tree.proofs.LocalLaws.{SameIn, totals_same, root_same}
 use Rattle.model.specs.View.{moves}
 use Rattle.model.specs.declared.Joint.{Joint}
-use Rattle.model.specs.Flat.{Tables}
-use Rattle.dynamics.specs.declared.Motion.{Motion}
+use Rattle.model.specs.declared.Model.{Model}
+use Rattle.model.specs.declared.Pose.{Pose}
+use Rattle.model.specs.Poses.{no_pose}
+use Rattle.model.specs.Tables.{joint_at}
 use Rattle.dynamics.specs.Frames.{joint_frame}
 use Rattle.dynamics.specs.Run.{Run, joint_count, Moves, frame_of, Fit}
-use Rattle.dynamics.specs.Figures.{start_of, kernel_of, inverse_step, gravity_step, figure, figure_of, root_of}
+use Rattle.dynamics.specs.Figures.{start_of, kernel_of, figure, figure_of, root_of}
 use Rattle.spatial.specs.Past.{no_wrench}
-use Rattle.dynamics.specs.Flat.{pose_in, run_of}
+use Rattle.dynamics.specs.Runs.{run_of}
 use Rattle.dynamics.specs.Output.{placed, put_of, Done}
-use Rattle.sweeps.specs.Swept.{Swept}
-use Rattle.sweeps.specs.Work.{no_frame}
+use Rattle.spatial.specs.Past.{no_frame}
+use Rattle.sweeps.specs.Swept.{Swept, steps_of}
 
 -- ---- a joint at hand, known to be the run's
 
@@ -34,23 +35,17 @@ module _ (t : Run) (m : ℕ) (fit : Fit t m) (j : ℕ) (joint : Joint) (e : join
   pub number_fits : moves joint.kind ≡ true → joint.number < m
   number_fits b = rw e (fit.inside j h (rw e at b))
 
-  pub parent_fits : joint.parent < 64
-  parent_fits =
-      let up : (t.joint j).parent ≤ j = fit.tree j h in
-      let most : t.count ≤ 64 = fit.few in
-      rw e (omega arith)
-
 -- the lists are no part of what a run's tree needs
-pub fit_listed : (t : Tables) (n m : ℕ) (poses speeds accelerations : List Float) (loads : List Wrench) → Fit (run_of t n [] [] [] []) m → Fit (run_of t n poses speeds accelerations loads) m
-fit_listed t n m poses speeds accelerations loads f = record { some = f.some; few = f.few; tree = f.tree; inside = f.inside; apart = f.apart }
+pub fit_listed : (m : Model) (n : ℕ) (ps : List Pose) (loads : List Wrench) → Fit (run_of m [] [] [] []) n → Fit (run_of m ps [] [] loads) n
+fit_listed m n ps loads f = record { some = f.some; few = f.few; tree = f.tree; inside = f.inside; apart = f.apart }
 
 pub frame_is :
-    (t : Tables) (n : ℕ) (poses speeds accelerations : List Float) (loads : List Wrench) (j : ℕ) (joint : Joint) (f : Frame)
-    → joint ≡ (run_of t n poses speeds accelerations loads).joint j
-    → f ≡ joint_frame joint.kind joint.origin joint.axis (pose_in joint.kind joint.number poses)
-    → f ≡ frame_of (run_of t n poses speeds accelerations loads) j
+    (m : Model) (ps : List Pose) (j : ℕ) (joint : Joint) (f : Frame)
+    → joint ≡ joint_at m j
+    → f ≡ joint_frame joint.kind joint.origin joint.axis (get_or ps joint.number no_pose)
+    → f ≡ frame_of (run_of m ps [] [] []) j
 unfolding frame_of
-frame_is t n poses speeds accelerations loads j joint f e p = p ∙ ap (λ (x : Joint). joint_frame x.kind x.origin x.axis (pose_in x.kind x.number poses)) e
+frame_is m ps j joint f e p = p ∙ ap (λ (x : Joint). joint_frame x.kind x.origin x.axis (get_or ps x.number no_pose)) e
 
 -- ---- outward
 
@@ -100,21 +95,18 @@ module _ {S : Type 0} (t : Run) (root : S) (step : ℕ → S → S) (z : S) wher
       → Swept t root step z frames' values' (j + 1)
   swept_turn m fit frames frames' values values' j f v h n n' es es' ef ev o = rw (es, es') (swept_next m fit frames values j f v h n n' ef ev o)
 
+-- the value at the root
+pub root_value : {S : Type 0} (t : Run) (root : S) (step : ℕ → S → S) (z : S) (frames : List Frame) (values : List S) (j : ℕ) → Swept t root step z frames values j → get_or values 0 z ≡ root
+unfolding value_at climb
+root_value t root step z frames values j o = o.valued 0 (omega arith)
+
 -- the loads are no part of it
-module _ (t : Tables) (n : ℕ) (poses speeds accelerations : List Float) (xs ys : List Wrench) (frames : List Frame) (j : ℕ) where
-  abbrev before : Run
-  before = run_of t n poses speeds accelerations xs
-
-  abbrev after : Run
-  after = run_of t n poses speeds accelerations ys
-
-  pub inverse_loaded : (root z : Motion) (values : List Motion) → Swept before root (inverse_step before) z frames values j → Swept after root (inverse_step after) z frames values j
-  unfolding frame_of
-  inverse_loaded root z values o = record { framed = o.framed; valued = o.valued }
-
-  pub gravity_loaded : (root z : Vector3) (values : List Vector3) → Swept before root (gravity_step before) z frames values j → Swept after root (gravity_step after) z frames values j
-  unfolding frame_of
-  gravity_loaded root z values o = record { framed = o.framed; valued = o.valued }
+pub swept_loaded : {S : Type 0} (step : Joint → Frame → S → S) (m : Model) (ps : List Pose) (xs ys : List Wrench) (root z : S) (frames : List Frame) (values : List S) (j : ℕ)
+    → let before = run_of m ps [] [] xs in
+    let after = run_of m ps [] [] ys in
+    Swept before root (steps_of step before) z frames values j → Swept after root (steps_of step after) z frames values j
+unfolding frame_of
+swept_loaded step m ps xs ys root z frames values j o = record { framed = o.framed; valued = o.valued }
 
 -- ---- inward
 

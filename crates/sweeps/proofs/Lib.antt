@@ -1,4 +1,2 @@
-pub mod WorkLaws
-pub mod StepLaws
 pub mod KernelLaws
 pub mod OutwardLaws

@@ -1,24 +1,23 @@
 -- A joint that stays in its bounds: what a sweep may read and write for it.
-use Prim.Native.Nat.{ℕ, ◌+◌, ◌<◌, ◌≤◌}
+use Prim.Native.Nat.{ℕ, ◌+◌, ◌-◌, ◌<◌, ◌≤◌}
 use mathlib.Core.Bool.{Bool, true, false, false≢true, ◌&&◌}
 use mathlib.Core.List.{List, []}
 use mathlib.Core.Logic.{⊎_elim}
 use mathlib.Core.Path.{◌≡◌, sym, ap, ◌∙◌}
 use lib.Dec.{eqb, leb, ltb}
-use lib.ListN.{get_or}
-use lib.Ieee.{Float}
 use borrow.Author.Tests.{eq-eqb, eqb-true, le-leb, leb-true, lt-ltb, ltb-true}
 use Rattle.spatial.specs.declared.Vector3.{Vector3}
 use Rattle.spatial.proofs.BoolLaws.{and_both, and_left, and_right, by_bool}
-use Rattle.model.specs.Flat.{Tables, joint_at, link_at, kind_of}
+use Rattle.model.specs.Tables.{joint_at, entry_at, link_at, kind_of}
 use Rattle.model.specs.View.{moves}
 use Rattle.model.specs.Walk.{stays_in, joint_passes, next_after, times_link, times_joint}
 use Rattle.model.specs.declared.Joint.{Joint}
-use Rattle.model.specs.declared.Link.{Link}
+use Rattle.model.specs.declared.Model.{Model}
+use Rattle.model.specs.declared.Pose.{Pose}
 use Rattle.model.proofs.NumberLaws.{moves_fixed, moves_other}
 use Rattle.model.proofs.WalkLaws.{Walked, walked_turn}
-use Rattle.dynamics.specs.Flat.{run_of}
-use Rattle.dynamics.specs.Run.{Fit, joint_count}
+use Rattle.dynamics.specs.Runs.{run_of}
+use Rattle.dynamics.specs.Run.{Fit}
 
 module _ (j code m : ℕ) (joint : Joint) (h : stays_in j code joint m ≡ true) where
   pub stays_parent : joint.parent ≤ j
@@ -46,33 +45,26 @@ stays j code m joint up inside =
     (by_bool (eqb code 0))
 
 -- the joints of a tree stay
-pub fit_stays :
-    (t : Tables) (n m j : ℕ) (joint : Joint)
-    → Fit (run_of t n [] [] [] []) m
-    → j < joint_count (run_of t n [] [] [] [])
-    → joint ≡ joint_at t.joints t.kinds t.parents t.numbers j
-    → stays_in j (get_or t.kinds j 0) joint m ≡ true
-fit_stays t n m j joint f h e =
-    let code = get_or t.kinds j 0 in
-    ap (λ (x : Joint). stays_in j code x m) e
-    ∙ stays j code m (joint_at t.joints t.kinds t.parents t.numbers j) (f.tree j h) (λ q. f.inside j h (moves_other code (λ z. false≢true (sym q ∙ eq-eqb code 0 z))))
+pub fit_stays : (m : Model) (n j : ℕ) (joint : Joint) → Fit (run_of m [] [] [] []) n → j < m.count - 1 → joint ≡ joint_at m j → stays_in j (entry_at m j).kind joint n ≡ true
+fit_stays m n j joint f h e =
+    let code = (entry_at m j).kind in
+    ap (λ (x : Joint). stays_in j code x n) e
+    ∙ stays j code n (joint_at m j) (f.tree j h) (λ q. f.inside j h (moves_other code (λ z. false≢true (sym q ∙ eq-eqb code 0 z))))
 
--- a turn of the walk, with the joint and the link at hand known to be the tables'
+-- a turn of the walk, with the joint at hand known to be the model's
 pub walked_next :
-    (t : Tables) (count moving : ℕ) (shapes : List ℕ) (poses : List Float) (good passes : Bool) (zero zero' zero'' : Vector3) (next next' j : ℕ) (joint : Joint) (link : Link)
-    → Walked t count moving shapes poses good zero next j
-    → joint ≡ joint_at t.joints t.kinds t.parents t.numbers j
-    → link ≡ link_at t.links (j + 1)
-    → stays_in j (get_or t.kinds j 0) joint moving ≡ true
-    → passes ≡ joint_passes (get_or t.kinds j 0) joint link next shapes poses
-    → next' ≡ next_after (get_or t.kinds j 0) next
-    → zero' ≡ times_link zero link
+    (m : Model) (ps : List Pose) (good passes : Bool) (zero zero' zero'' : Vector3) (next next' j : ℕ) (joint : Joint)
+    → Walked m ps good zero next j
+    → joint ≡ joint_at m j
+    → stays_in j (entry_at m j).kind joint m.moving ≡ true
+    → passes ≡ joint_passes (entry_at m j).kind joint (link_at m (j + 1)) next ps
+    → next' ≡ next_after (entry_at m j).kind next
+    → zero' ≡ times_link zero (link_at m (j + 1))
     → zero'' ≡ times_joint zero' joint
-    → Walked t count moving shapes poses (good && passes) zero'' next' (j + 1)
-walked_next t count moving shapes poses good passes zero zero' zero'' next next' j joint link w ej el s p n z y =
-    walked_turn t count moving shapes poses good passes zero zero' zero'' next next' j w
-    (ap (λ (x : Joint). stays_in j (get_or t.kinds j 0) x moving) (sym ej) ∙ s)
-    (p ∙ ap (λ (x : Joint). joint_passes (get_or t.kinds j 0) x link next shapes poses) ej ∙ ap (λ (x : Link). joint_passes (get_or t.kinds j 0) (joint_at t.joints t.kinds t.parents t.numbers j) x next shapes poses) el)
-    n
-    (z ∙ ap (times_link zero) el)
+    → Walked m ps (good && passes) zero'' next' (j + 1)
+walked_next m ps good passes zero zero' zero'' next next' j joint w ej s p n z y =
+    walked_turn m ps good passes zero zero' zero'' next next' j w
+    (ap (λ (x : Joint). stays_in j (entry_at m j).kind x m.moving) (sym ej) ∙ s)
+    (p ∙ ap (λ (x : Joint). joint_passes (entry_at m j).kind x (link_at m (j + 1)) next ps) ej)
+    n z
     (y ∙ ap (times_joint zero') ej)

@@ -1,7 +1,7 @@
-// The two sweeps over lent tables: outward with a quick test of the model, and inward to the figures.
+// The two sweeps over a model, for either kernel: outward with a quick test of the model, and inward to the figures.
 #![tactic(auto)]
 
 pub mod floating;
-pub mod gravity;
-pub mod inverse;
-pub mod work;
+pub mod inward;
+pub mod kernel;
+pub mod outward;

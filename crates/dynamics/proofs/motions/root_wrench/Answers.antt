@@ -1,6 +1,0 @@
-use Rattle.dynamics.specs.Motions.{inertial_wrench}
-use Rattle.dynamics.proofs.motions.root_wrench.Goals as goal
-
-pub returns : goal.returns
-unfolding inertial_wrench
-returns c = cc
