@@ -11,13 +11,12 @@ use Rattle.fit.specs.Finite.{wrench_numbers}
 use Rattle.spatial.specs.Wrenches.{world_wrench}
 use Rattle.spatial.specs.declared.Quaternion.{Quaternion}
 use Rattle.spatial.specs.declared.Wrench.{Wrench}
-use Rattle.model.specs.Answer.{number_of}
+use Rattle.refusal.specs.Numbers.{number}
+use Rattle.refusal.proofs.Unique as Answers
 use Rattle.model.specs.Good.{GoodModel}
 use Rattle.model.specs.Numbers.{Holds}
 use Rattle.model.specs.View.{numbering_of}
 use Rattle.model.specs.declared.BaseState.{BaseState}
-use Rattle.model.specs.declared.Checked.{Checked}
-use Rattle.model.specs.declared.Checked.TheVariants.{Good, InvalidModel, InvalidBaseState, WrongLength, InvalidPose, NonFiniteInput}
 use Rattle.model.specs.declared.RootMode.{RootMode}
 use Rattle.model.specs.declared.RootMode.TheVariants.{Fixed, Floating}
 use Rattle.model.proofs.NumberedLaws.{holder_is}
@@ -26,7 +25,7 @@ use Rattle.model.specs.declared.Pose.{Pose}
 use Rattle.loads.specs.Checks.{or_else}
 use Rattle.loads.specs.Sums.{prepared_sums, flat_sums, table_loads}
 use Rattle.loads.specs.declared.Load.{Load}
-use Rattle.loads.specs.declared.LoadSums.{LoadSums}
+use Rattle.loads.specs.Sums.{LoadSums}
 use Rattle.loads.proofs.SumLaws.{flat_prepared}
 use Rattle.outcome.specs.declared.Function.{Function}
 use Rattle.outcome.specs.Call.{Call, call_of}
@@ -43,15 +42,7 @@ use Rattle.outcome.proofs.Unique.{accepted}
 
 -- ---- what has passed
 
-good_answer : (a : Checked) → number_of a ≡ 0 → a ≡ Good
-good_answer Good e = refl
-good_answer InvalidModel e = absurd (omega (arith, e))
-good_answer InvalidBaseState e = absurd (omega (arith, e))
-good_answer WrongLength e = absurd (omega (arith, e))
-good_answer InvalidPose e = absurd (omega (arith, e))
-good_answer NonFiniteInput e = absurd (omega (arith, e))
-
-or_else_zero : (a b : ℕ) → or_else a b ≡ 0 → (a ≡ 0) × (b ≡ 0)
+pub or_else_zero : (a b : ℕ) → or_else a b ≡ 0 → (a ≡ 0) × (b ≡ 0)
 or_else_zero zero b e = (refl, e)
 or_else_zero (suc a) b e = absurd (omega arith)
 
@@ -67,14 +58,14 @@ module _ (c : Call) (found : List Float) (ok : (outcome c found).number ≡ 0) w
 
   pub model_is : GoodModel c.model
   unfolding refusal
-  model_is = model_good c.model c.base c.positions c.entries (good_answer _ (or_else_zero _ _ passed).0)
+  model_is = model_good c.model c.base c.positions c.entries (Answers.accepted _ (or_else_zero _ _ passed).0)
 
   pub loads_are : takes_loads c.function ≡ true → c.loads.number ≡ 0
   unfolding refusal
   loads_are e =
       sym (loads_taken c c.function e)
-      ∙ last_of (number_of (start_checked c.model c.base c.positions c.entries)) (number_of (speeds_checked c c.function)) (number_of (accelerations_checked c c.function))
-      (number_of (output_checked c.mode c.model.moving (length found))) _ passed
+      ∙ last_of (number (start_checked c.model c.base c.positions c.entries)) (number (speeds_checked c c.function)) (number (accelerations_checked c c.function))
+      (number (output_checked c.mode c.model.moving (length found))) _ passed
 
 -- ---- where a figure stands
 

@@ -22,9 +22,9 @@ use Rattle.model.specs.declared.JointType.{JointType}
 use Rattle.model.specs.declared.JointType.TheVariants.{Fixed as FixedJoint, Revolute, Prismatic}
 use Rattle.model.proofs.GoodLaws.{parent_first, number_below, number_apart}
 use Rattle.loads.specs.declared.Load.{Load}
-use Rattle.loads.specs.declared.LoadSums.{LoadSums}
+use Rattle.loads.specs.Sums.{LoadSums}
 use Rattle.loads.proofs.LinkSums.{link_sum}
-use Rattle.dynamics.specs.Flat.{value_in}
+use Rattle.dynamics.specs.Runs.{value_in}
 use Rattle.dynamics.specs.Motions.{root_motion}
 use Rattle.dynamics.specs.Weights.{turned}
 use Rattle.dynamics.specs.Run.{Run, Fit}

@@ -10,13 +10,14 @@ use lib.Ieee.{Float}
 use borrow.Author.Tests.{ne_eqb, eq-eqb}
 use Rattle.fit.specs.Finite.{all_finite}
 use Rattle.spatial.proofs.BoolLaws.{by_bool, same_or_not, upto}
-use Rattle.model.specs.Answer.{number_of}
+use Rattle.std.specs.Prelude.{Result, Ok, Err}
+use Rattle.refusal.specs.declared.Refusal.{Refusal}
+use Rattle.refusal.specs.Numbers as Numbers
 use Rattle.model.specs.Bases.{good_base}
 use Rattle.model.specs.Good.{good_model}
 use Rattle.model.specs.Lists.{list_checked}
 use Rattle.model.specs.Poses.{pose_numbers, pose_fits, pose_checked}
-use Rattle.model.specs.declared.Checked.{Checked}
-use Rattle.model.specs.declared.Checked.TheVariants.{Good, InvalidModel, InvalidBaseState, WrongLength, InvalidPose, NonFiniteInput}
+use Rattle.refusal.specs.declared.Refusal.TheVariants.{InvalidModel, InvalidBaseState, WrongLength, InvalidPose, NonFiniteInput}
 use Rattle.model.proofs.GoodLaws.{good_says, says_good, base_says, says_base, one_holder}
 use Rattle.model.proofs.PoseLaws.{wrong_length}
 use Rattle.loads.specs.When.{LoadsNumber}
@@ -137,35 +138,35 @@ module _ (c : Call) (found : List Float) where
   abbrev number : ℕ
   number = (outcome c found).number
 
-  abbrev start : Checked
+  abbrev start : Result Unit Refusal
   start = start_checked c.model c.base c.positions c.entries
 
   numbered : (n : ℕ) (out : List Float) → told n out ≡ outcome c found → number ≡ n
   numbered n out e = sym (ap (λ (o : Outcome). o.number) e)
 
-  at_start : (a : Checked) → Refused a → a ≡ start → number ≡ number_of a
-  at_start a r e = numbered (number_of a) found (stop_start c found a (number_of a) refl r e)
+  at_start : (a : Result Unit Refusal) → Refused a → a ≡ start → number ≡ Numbers.number a
+  at_start a r e = numbered (Numbers.number a) found (stop_start c found a (Numbers.number a) refl r e)
 
-  at_speeds : SpeedsTurn c → takes_speeds c.function ≡ true → (a : Checked) → Refused a → a ≡ list_checked c.speeds c.model.moving → number ≡ number_of a
-  at_speeds t k a r e = numbered (number_of a) found (stop_speeds c found (speeds_turn c t) a (number_of a) refl r (e ∙ sym (speeds_taken c c.function k)))
+  at_speeds : SpeedsTurn c → takes_speeds c.function ≡ true → (a : Result Unit Refusal) → Refused a → a ≡ list_checked c.speeds c.model.moving → number ≡ Numbers.number a
+  at_speeds t k a r e = numbered (Numbers.number a) found (stop_speeds c found (speeds_turn c t) a (Numbers.number a) refl r (e ∙ sym (speeds_taken c c.function k)))
 
   module _ (t : AccelerationsTurn c) where
-    begun : start ≡ Good
+    begun : start ≡ Ok tt
     begun = speeds_turn c t.before
 
-    fast : speeds_checked c c.function ≡ Good
+    fast : speeds_checked c c.function ≡ Ok tt
     fast = speeds_good c c.function t.speeds
 
-    at_accelerations : takes_accelerations c.function ≡ true → (a : Checked) → Refused a → a ≡ list_checked c.accelerations c.model.moving → number ≡ number_of a
-    at_accelerations k a r e = numbered (number_of a) found (stop_accelerations c found begun fast a (number_of a) refl r (e ∙ sym (accelerations_taken c c.function k)))
+    at_accelerations : takes_accelerations c.function ≡ true → (a : Result Unit Refusal) → Refused a → a ≡ list_checked c.accelerations c.model.moving → number ≡ Numbers.number a
+    at_accelerations k a r e = numbered (Numbers.number a) found (stop_accelerations c found begun fast a (Numbers.number a) refl r (e ∙ sym (accelerations_taken c c.function k)))
 
-  pushed : OutputTurn c → accelerations_checked c c.function ≡ Good
+  pushed : OutputTurn c → accelerations_checked c c.function ≡ Ok tt
   pushed t = accelerations_good c c.function t.accelerations
 
   at_output : OutputTurn c → (places ≡ output_length c.mode c.model.moving → ⊥) → number ≡ 3
-  at_output t n = numbered 3 found (stop_output c found (begun t.before) (fast t.before) (pushed t) WrongLength 3 refl (λ r. cc) (rw (ne_eqb places (output_length c.mode c.model.moving) n)))
+  at_output t n = numbered 3 found (stop_output c found (begun t.before) (fast t.before) (pushed t) (Err WrongLength) 3 refl (λ r. cc) (rw (ne_eqb places (output_length c.mode c.model.moving) n)))
 
-  roomy : LoadsTurn c places → output_checked c.mode c.model.moving places ≡ Good
+  roomy : LoadsTurn c places → output_checked c.mode c.model.moving places ≡ Ok tt
   roomy t = rw (eq-eqb places (output_length c.mode c.model.moving) t.output)
 
   at_loads : (n : ℕ) → LoadsGive c places (suc n) → number ≡ suc n
@@ -183,31 +184,31 @@ module _ (c : Call) (found : List Float) where
   unfolding pose_checked
   infinite n t f =
       let h = one_holder c.model t.before.before.model n t.inside in
-      let e : checked_at c n ≡ NonFiniteInput = at_holder c t.before.before n h.0 h.1 ∙ rw f in
-      at_start NonFiniteInput (λ r. cc) (sym e ∙ sym (entry_turn c n t (rw e (λ r. cc))))
+      let e : checked_at c n ≡ Err NonFiniteInput = at_holder c t.before.before n h.0 h.1 ∙ rw f in
+      at_start (Err NonFiniteInput) (λ r. cc) (sym e ∙ sym (entry_turn c n t (rw e (λ r. cc))))
 
   unfit : Four c → number ≡ 4
   unfolding pose_checked
   unfit w =
-      let e : checked_at c w.at ≡ InvalidPose = at_holder c w.turn.before.before w.at w.joint w.holds ∙ rw (w.finite, w.broken) in
-      at_start InvalidPose (λ r. cc) (sym e ∙ sym (entry_turn c w.at w.turn (rw e (λ r. cc))))
+      let e : checked_at c w.at ≡ Err InvalidPose = at_holder c w.turn.before.before w.at w.joint w.holds ∙ rw (w.finite, w.broken) in
+      at_start (Err InvalidPose) (λ r. cc) (sym e ∙ sym (entry_turn c w.at w.turn (rw e (λ r. cc))))
 
   decided : (n : ℕ) → When n → number ≡ n
   decided zero w = at_figures w.turn 0 (rw w.finite)
   decided (suc zero) w =
-      at_start InvalidModel (λ r. cc) (start_model _ _ _ _ InvalidModel (rw (denied (good_model c.model) (λ e. w (good_says c.model e)))) (λ r. cc))
+      at_start (Err InvalidModel) (λ r. cc) (start_model _ _ _ _ (Err InvalidModel) (rw (denied (good_model c.model) (λ e. w (good_says c.model e)))) (λ r. cc))
   decided (suc (suc zero)) w =
-      at_start InvalidBaseState (λ r. cc)
-      (start_base _ _ _ _ InvalidBaseState (rw (says_good c.model w.model)) (rw (denied (good_base c.base) (λ e. w.base (base_says c.base e)))) (λ r. cc))
-  decided (suc (suc (suc zero))) (Three.positions t n) = at_start WrongLength (λ r. cc) (wrong_length _ _ _ _ n ∙ sym (positions_turn c t))
-  decided (suc (suc (suc zero))) (Three.speeds t k n) = at_speeds t k WrongLength (λ r. cc) (list_wrong _ _ n)
-  decided (suc (suc (suc zero))) (Three.accelerations t k n) = at_accelerations t k WrongLength (λ r. cc) (list_wrong _ _ n)
+      at_start (Err InvalidBaseState) (λ r. cc)
+      (start_base _ _ _ _ (Err InvalidBaseState) (rw (says_good c.model w.model)) (rw (denied (good_base c.base) (λ e. w.base (base_says c.base e)))) (λ r. cc))
+  decided (suc (suc (suc zero))) (Three.positions t n) = at_start (Err WrongLength) (λ r. cc) (wrong_length _ _ _ _ n ∙ sym (positions_turn c t))
+  decided (suc (suc (suc zero))) (Three.speeds t k n) = at_speeds t k (Err WrongLength) (λ r. cc) (list_wrong _ _ n)
+  decided (suc (suc (suc zero))) (Three.accelerations t k n) = at_accelerations t k (Err WrongLength) (λ r. cc) (list_wrong _ _ n)
   decided (suc (suc (suc zero))) (Three.output t n) = at_output t n
   decided (suc (suc (suc zero))) (Three.loads g) = at_loads 2 g
   decided (suc (suc (suc (suc zero)))) w = unfit w
   decided (suc (suc (suc (suc (suc zero))))) (Five.position n t f) = infinite n t f
-  decided (suc (suc (suc (suc (suc zero))))) (Five.speed t k e f) = at_speeds t k NonFiniteInput (λ r. cc) (list_infinite _ _ e f)
-  decided (suc (suc (suc (suc (suc zero))))) (Five.acceleration t k e f) = at_accelerations t k NonFiniteInput (λ r. cc) (list_infinite _ _ e f)
+  decided (suc (suc (suc (suc (suc zero))))) (Five.speed t k e f) = at_speeds t k (Err NonFiniteInput) (λ r. cc) (list_infinite _ _ e f)
+  decided (suc (suc (suc (suc (suc zero))))) (Five.acceleration t k e f) = at_accelerations t k (Err NonFiniteInput) (λ r. cc) (list_infinite _ _ e f)
   decided (suc (suc (suc (suc (suc zero))))) (Five.load g) = at_loads 4 g
   decided (suc (suc (suc (suc (suc (suc zero)))))) w = at_loads 5 w
   decided (suc (suc (suc (suc (suc (suc (suc zero))))))) w = at_loads 6 w

@@ -19,8 +19,8 @@ use Rattle.spatial.specs.Rotations.{inverted, multiplied, rotated, matrix_of, tr
 use Rattle.spatial.specs.Wrenches.{wrench_sum, wrench_to_parent, world_wrench}
 use Rattle.tree.proofs.WayLaws.{low, above_passes}
 use Rattle.tree.specs.Tree.{climb, value_at, total, total_of, root_sum}
-use Rattle.build.specs.Build.{pasted, blank_model, with_link, with_joint}
-use Rattle.model.specs.Flat.{vector_at, frame_at, link_at, kind_of}
+use Rattle.build.specs.Build.{blank_model, with_link, with_joint}
+use Rattle.model.specs.Tables.{kind_of}
 use Rattle.model.specs.declared.BaseState.{BaseState}
 use Rattle.model.specs.declared.JointType.TheVariants.{Revolute}
 use Rattle.model.specs.declared.Link.{Link}
@@ -39,8 +39,8 @@ use Rattle.model.specs.Poses.{pose_checked, first, kind_of_number, positions_che
 use Rattle.model.specs.declared.RootMode.TheVariants.{Floating}
 use Rattle.loads.specs.Sums.{prepared_sums, start_sums, sum_step, sum_from, load_sums}
 use Rattle.loads.specs.declared.Load.{Load}
-use Rattle.loads.specs.Checks.{link_id, finiteness, amount}
-use Rattle.dynamics.specs.Flat.{value_in}
+use Rattle.loads.specs.Checks.{link_checked, wrench_checked, sum_checked, amount_checked}
+use Rattle.dynamics.specs.Runs.{value_in}
 use Rattle.dynamics.specs.Frames.{half_turn, joint_frame}
 use Rattle.dynamics.specs.Motions.{root_motion, acceleration_at, carried, turning, sliding, driven, moved, inertial_wrench}
 use Rattle.dynamics.specs.Weights as Weights
@@ -89,13 +89,13 @@ module _ (f : Function) (mode : RootMode) (base : BaseState) (ls : List Load) (p
   second_day = day f mode base (hung hose) (p ∷ q ∷ ps') (u ∷ v ∷ vs') (a ∷ b ∷ ds') (on_hose pull ∷ ls)
 
   joint_same : (i : ℕ) → i < 2 → SameJoint first_day second_day i
-  unfolding pasted blank_model with_link with_joint frame_at vector_at kind_of
+  unfolding blank_model with_link with_joint kind_of
   joint_same zero h = record { joint = refl; pose = λ m. refl; speed = λ m t. refl; acceleration = λ m t. refl }
   joint_same (suc zero) h = record { joint = refl; pose = λ m. refl; speed = λ m t. refl; acceleration = λ m t. refl }
   joint_same (suc (suc i)) h = absurd (omega arith)
 
   elbow : SamePart first_day ls second_day (on_hose pull ∷ ls) 1
-  unfolding pasted blank_model with_link with_joint link_at vector_at flat_map
+  unfolding blank_model with_link with_joint flat_map
   elbow = record { first = omega arith; second = omega arith; joint = joint_same 1 (omega arith); link = refl; loads = λ t. refl }
 
   module _ (found found' : List Float) (ok : (outcome first_day found).number ≡ 0) (ok' : (outcome second_day found').number ≡ 0) where
@@ -130,7 +130,7 @@ module _ (f : Function) (mode : RootMode) (base : BaseState) (ls : List Load) (p
         }
 
     pub elbow_stays : Stays 1 1 first_day second_day found found'
-    unfolding pasted blank_model with_link with_joint kind_of
+    unfolding blank_model with_link with_joint kind_of
     elbow_stays =
         figure_stays first_day second_day ls (on_hose pull ∷ ls) (λ t. (0, refl)) (λ t. (0, refl)) found found' ok ok' 1 1
         (record { inside = omega arith; moving = refl; number = refl }) same
@@ -151,7 +151,7 @@ ten = replicate 10 nan
 
 -- both are accepted, and the figure at number 2, the other branch's, differs in its bits
 pub days : ((outcome monday nine).number ≡ 0) × ((outcome tuesday ten).number ≡ 0) × (eqb (to_bits binary64 (get_or (outcome monday nine).output 8 nan)) (to_bits binary64 (get_or (outcome tuesday ten).output 8 nan)) ≡ false)
-unfolding to_bits size fits outcome refusal start_checked figures list_of good_base good_model counts_fit numbered numbered_at taken holder_of good_joint fits_joint axis_fits good_link weighs positions_checked pose_checked first kind_of_number list_checked all all_finite is_finite unit_pair unit_quaternion unit_vector is_unit vector_sum scaled crossed dotted inverted multiplied rotated matrix_of transformed wrench_sum wrench_to_parent world_wrench standard_gravity zero_vector zero_twist zero_wrench le add sub mul neg climb value_at total total_of root_sum link_at frame_at vector_at kind_of pasted blank_model with_link with_joint link_id finiteness amount start_sums sum_step sum_from load_sums prepared_sums value_in half_turn joint_frame root_motion acceleration_at carried turning sliding driven moved inertial_wrench Weights.turned gravity_wrench frame_of figure figure_of root_of
+unfolding to_bits size fits outcome refusal start_checked figures list_of good_base good_model counts_fit numbered numbered_at taken holder_of good_joint fits_joint axis_fits good_link weighs positions_checked pose_checked first kind_of_number list_checked all all_finite is_finite unit_pair unit_quaternion unit_vector is_unit vector_sum scaled crossed dotted inverted multiplied rotated matrix_of transformed wrench_sum wrench_to_parent world_wrench standard_gravity zero_vector zero_twist zero_wrench le add sub mul neg climb value_at total total_of root_sum kind_of blank_model with_link with_joint link_checked wrench_checked sum_checked amount_checked start_sums sum_step sum_from load_sums prepared_sums value_in half_turn joint_frame root_motion acceleration_at carried turning sliding driven moved inertial_wrench Weights.turned gravity_wrench frame_of figure figure_of root_of
 days = (refl, refl, refl)
 
 -- the figure at number 1, which stands at place 7

@@ -1,6 +1,4 @@
 pub mod AnswerLaws
-pub mod TableLaws
-pub mod PoseLaws
 pub mod OutputLaws
 pub mod PositionLaws
 pub mod PassedLaws
@@ -10,6 +8,7 @@ pub mod FigureLaws
 pub mod Exactly
 pub mod Unique
 pub mod AcceptedLaws
+pub mod ReadyLaws
 pub mod Demand3
 pub mod Stays
 pub mod Hose

@@ -37,10 +37,10 @@ use Rattle.model.specs.declared.Pose.TheVariants.{Half}
 use Rattle.model.specs.declared.RootMode.{RootMode}
 use Rattle.model.specs.declared.RootMode.TheVariants.{Fixed, Floating}
 use Rattle.build.proofs.Worked.{one, two, vector, zero₃, link, turned, y, z}
-use Rattle.loads.specs.Checks.{link_id, finiteness, amount}
+use Rattle.loads.specs.Checks.{link_checked, wrench_checked, sum_checked, amount_checked}
 use Rattle.loads.specs.Sums.{start_sums, sum_step, sum_from, load_sums, prepared_sums}
 use Rattle.loads.specs.declared.Load.{Load}
-use Rattle.dynamics.specs.Flat.{value_in}
+use Rattle.dynamics.specs.Runs.{value_in}
 use Rattle.dynamics.specs.Frames.{half_turn, joint_frame}
 use Rattle.dynamics.specs.Motions.{root_motion, acceleration_at, carried, turning, sliding, driven, moved, inertial_wrench}
 use Rattle.dynamics.specs.Weights as Weights
@@ -195,7 +195,7 @@ pub way_needed :
     && differ_from 1 (based InverseDynamics Fixed spinning) (based InverseDynamics Floating spinning ∷ [])
     && differ_from 1 (numbered_as 0 1) (numbered_as 1 0 ∷ [])
     ≡ true
-unfolding to_bits size fits outcome refusal start_checked figures list_of good_base good_model counts_fit numbered numbered_at taken holder_of good_joint fits_joint axis_fits good_link weighs positions_checked pose_checked first kind_of_number list_checked all all_finite is_finite unit_pair unit_quaternion unit_vector is_unit vector_sum scaled crossed dotted inverted multiplied rotated matrix_of transformed wrench_sum wrench_to_parent world_wrench standard_gravity zero_vector zero_twist zero_wrench le add sub mul neg climb value_at total total_of root_sum link_id finiteness amount start_sums sum_step sum_from load_sums prepared_sums value_in half_turn joint_frame root_motion acceleration_at carried turning sliding driven moved inertial_wrench Weights.turned gravity_wrench frame_of figure figure_of root_of
+unfolding to_bits size fits outcome refusal start_checked figures list_of good_base good_model counts_fit numbered numbered_at taken holder_of good_joint fits_joint axis_fits good_link weighs positions_checked pose_checked first kind_of_number list_checked all all_finite is_finite unit_pair unit_quaternion unit_vector is_unit vector_sum scaled crossed dotted inverted multiplied rotated matrix_of transformed wrench_sum wrench_to_parent world_wrench standard_gravity zero_vector zero_twist zero_wrench le add sub mul neg climb value_at total total_of root_sum link_checked wrench_checked sum_checked amount_checked start_sums sum_step sum_from load_sums prepared_sums value_in half_turn joint_frame root_motion acceleration_at carried turning sliding driven moved inertial_wrench Weights.turned gravity_wrench frame_of figure figure_of root_of
 way_needed = refl
 
 -- The shoulder's figure: of the elbow, which hangs on it: origin, axis, pose, speed, acceleration, parent; that no other hangs on it in the
@@ -217,5 +217,5 @@ pub hanging_needed :
     ∷ [])
     && differ_from 0 (bearing (about_y 2 one ∷ about_y 2 one ∷ about_y 2 great ∷ [])) (bearing (about_y 2 great ∷ about_y 2 one ∷ about_y 2 one ∷ []) ∷ [])
     ≡ true
-unfolding to_bits size fits outcome refusal start_checked figures list_of good_base good_model counts_fit numbered numbered_at taken holder_of good_joint fits_joint axis_fits good_link weighs positions_checked pose_checked first kind_of_number list_checked all all_finite is_finite unit_pair unit_quaternion unit_vector is_unit vector_sum scaled crossed dotted inverted multiplied rotated matrix_of transformed wrench_sum wrench_to_parent world_wrench standard_gravity zero_vector zero_twist zero_wrench le add sub mul neg climb value_at total total_of root_sum link_id finiteness amount start_sums sum_step sum_from load_sums prepared_sums value_in half_turn joint_frame root_motion acceleration_at carried turning sliding driven moved inertial_wrench Weights.turned gravity_wrench frame_of figure figure_of root_of
+unfolding to_bits size fits outcome refusal start_checked figures list_of good_base good_model counts_fit numbered numbered_at taken holder_of good_joint fits_joint axis_fits good_link weighs positions_checked pose_checked first kind_of_number list_checked all all_finite is_finite unit_pair unit_quaternion unit_vector is_unit vector_sum scaled crossed dotted inverted multiplied rotated matrix_of transformed wrench_sum wrench_to_parent world_wrench standard_gravity zero_vector zero_twist zero_wrench le add sub mul neg climb value_at total total_of root_sum link_checked wrench_checked sum_checked amount_checked start_sums sum_step sum_from load_sums prepared_sums value_in half_turn joint_frame root_motion acceleration_at carried turning sliding driven moved inertial_wrench Weights.turned gravity_wrench frame_of figure figure_of root_of
 hanging_needed = refl

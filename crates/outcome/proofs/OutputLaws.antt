@@ -16,10 +16,12 @@ use Rattle.model.proofs.NumberedLaws.{holder_holds}
 use Rattle.dynamics.specs.Run.{Run, joint_count}
 use Rattle.dynamics.specs.Figures.{figure_of, Written}
 use Rattle.dynamics.specs.Run.{Fit}
-use Rattle.dynamics.specs.Flat.{run_of}
+use Rattle.dynamics.specs.Runs.{run_of}
 use Rattle.dynamics.specs.Output.{Floating}
 use Rattle.spatial.specs.declared.Quaternion.{Quaternion}
-use Rattle.model.specs.Flat.{Tables, view_of}
+use Rattle.model.specs.Tables.{view_of}
+use Rattle.model.specs.declared.Model.{Model}
+use Rattle.model.specs.declared.Pose.{Pose}
 use Rattle.model.specs.Good.{GoodModel}
 use Rattle.model.specs.declared.RootMode.TheVariants.{Fixed, Floating as FloatingMode}
 use Rattle.model.proofs.GoodLaws.{parent_first, number_below, number_apart}
@@ -58,10 +60,10 @@ written_list t k m g out e w =
 pub split_list : (out six rest : List Float) → take 6 out ≡ six → drop 6 out ≡ rest → out ≡ six ++ rest
 split_list out six rest e f = sym (take-append-drop 6 out) ∙ ap (λ (x : List Float). x ++ drop 6 out) e ∙ ap (λ (x : List Float). six ++ x) f
 
--- what a good model gives a kernel over its tables
-pub fit_good : (tables : Tables) (count moving : ℕ) (poses speeds accelerations : List Float) (loads : List Wrench) → GoodModel (view_of tables count moving) → Fit (run_of tables count poses speeds accelerations loads) moving
-fit_good tables count moving poses speeds accelerations loads g =
-    let t = view_of tables count moving in
+-- what a good model gives a kernel over it
+pub fit_good : (m : Model) (ps : List Pose) (speeds accelerations : List Float) (loads : List Wrench) → GoodModel (view_of m) → Fit (run_of m ps speeds accelerations loads) m.moving
+fit_good m ps speeds accelerations loads g =
+    let t = view_of m in
     record {
       some = g.some;
       few = g.few;
@@ -70,15 +72,15 @@ fit_good tables count moving poses speeds accelerations loads g =
       apart = number_apart t g;
     }
 
-pub fit_as_long : (tables : Tables) (count moving : ℕ) → GoodModel (view_of tables count moving) → (n : ℕ) → n ≡ moving → Fit (run_of tables count [] [] [] []) n
-fit_as_long tables count moving g n e = rw e (fit_good tables count moving [] [] [] [] g)
+pub fit_as_long : (m : Model) → GoodModel (view_of m) → (n : ℕ) → n ≡ m.moving → Fit (run_of m [] [] [] []) n
+fit_as_long m g n e = rw e (fit_good m [] [] [] [] g)
 
-module _ {S : Type 0} (tables : Tables) (count moving : ℕ) (poses speeds accelerations : List Float) (loads : List Wrench) (g : GoodModel (view_of tables count moving)) (k : Kernel S Wrench) (base : Quaternion) (out : List Float) where
+module _ {S : Type 0} (m : Model) (ps : List Pose) (loads : List Wrench) (g : GoodModel (view_of m)) (k : Kernel S Wrench) (base : Quaternion) (out : List Float) where
   abbrev run : Run
-  run = run_of tables count poses speeds accelerations loads
+  run = run_of m ps [] [] loads
 
-  pub fixed_list : length out ≡ moving → Written run k out → out ≡ solved_list Fixed base tables count moving run k
-  fixed_list e w = written_list run k moving g.numbers out e w
+  pub fixed_list : length out ≡ m.moving → Written run k out → out ≡ solved_list Fixed base m run k
+  fixed_list e w = written_list run k m.moving g.numbers out e w
 
-  pub floating_list : length out ≡ 6 + moving → Floating run k base out → out ≡ solved_list FloatingMode base tables count moving run k
-  floating_list e w = split_list out _ _ w.0 (written_list run k moving g.numbers (drop 6 out) (length-drop 6 out ∙ (let d : length out ≡ 6 + moving = e in omega arith)) w.1)
+  pub floating_list : length out ≡ 6 + m.moving → Floating run k base out → out ≡ solved_list FloatingMode base m run k
+  floating_list e w = split_list out _ _ w.0 (written_list run k m.moving g.numbers (drop 6 out) (length-drop 6 out ∙ (let d : length out ≡ 6 + m.moving = e in omega arith)) w.1)

@@ -5,7 +5,7 @@ use mathlib.Core.List.{List, []}
 use mathlib.Core.Path.{◌≡◌, refl, sym, ap, ◌∙◌}
 use lib.ListN.{length}
 use lib.Ieee.{Float}
-use Rattle.model.specs.Flat.{model_view}
+use Rattle.model.specs.Tables.{view_of}
 use Rattle.model.specs.Numbers.{Holds}
 use Rattle.model.specs.View.{numbering_of}
 use Rattle.model.specs.declared.BaseState.{BaseState}
@@ -41,7 +41,7 @@ abbrev pub Kept : ℕ → Call → Call → Type 0
 Kept n c d =
     (found found' : List Float) (r r' : ℕ) (out out' : List Float) → told r out ≡ outcome c found → told r' out' ≡ outcome d found' → r ≡ 0 → r' ≡ 0 → figure_at c n out ≡ figure_at d n out'
 
-module _ (mode mode' : RootMode) (model model' : Model) (base base' : BaseState) (ps ps' : List Pose) (entries entries' : ℕ) (n j : ℕ) (holds : Holds (numbering_of (model_view model)) n j) where
+module _ (mode mode' : RootMode) (model model' : Model) (base base' : BaseState) (ps ps' : List Pose) (entries entries' : ℕ) (n j : ℕ) (holds : Holds (numbering_of (view_of model)) n j) where
   module _ (vs vs' ds ds' : List Float) (ls ls' : List Load) where
     abbrev driven : Call
     driven = inverse mode model base ps entries vs ds ls

@@ -14,8 +14,9 @@ use Rattle.model.specs.Lists.{list_checked}
 use Rattle.model.specs.Numbers.{Holds}
 use Rattle.model.specs.Poses.{pose_checked, first, kind_of_number, positions_checked}
 use Rattle.model.specs.View.{numbering_of}
-use Rattle.model.specs.declared.Checked.{Checked}
-use Rattle.model.specs.declared.Checked.TheVariants.{Good, WrongLength, NonFiniteInput}
+use Rattle.std.specs.Prelude.{Result, Ok, Err}
+use Rattle.refusal.specs.declared.Refusal.{Refusal}
+use Rattle.refusal.specs.declared.Refusal.TheVariants.{WrongLength, NonFiniteInput}
 use Rattle.model.specs.declared.JointType.{JointType}
 use Rattle.model.proofs.GoodLaws.{says_good, says_base, one_holder}
 use Rattle.model.proofs.PoseLaws.{first_good, says_pose}
@@ -29,7 +30,7 @@ use Rattle.outcome.proofs.PositionLaws.{kind_held}
 
 -- ---- the law of a list of checks: the first that refuses decides
 
-first_bad : (f : ℕ → Checked) (i n : ℕ) → i < n → ((k : ℕ) → k < i → f k ≡ Good) → Refused (f i) → first n f ≡ f i
+first_bad : (f : ℕ → Result Unit Refusal) (i n : ℕ) → i < n → ((k : ℕ) → k < i → f k ≡ Ok tt) → Refused (f i) → first n f ≡ f i
 unfolding first
 first_bad f i zero l h r = absurd (omega arith)
 first_bad f i (suc n) l h r =
@@ -44,10 +45,10 @@ module _ (c : Call) where
   abbrev kinds : ℕ → JointType
   kinds j = (c.model.joint j).kind
 
-  abbrev pub checked_at : ℕ → Checked
+  abbrev pub checked_at : ℕ → Result Unit Refusal
   checked_at n = pose_checked (kind_of_number (numbering_of c.model) kinds (numbering_of c.model).count n) (entry c n)
 
-  abbrev start : Checked
+  abbrev start : Result Unit Refusal
   start = start_checked c.model c.base c.positions c.entries
 
   module _ (t : PositionsTurn c) where
@@ -58,7 +59,7 @@ module _ (c : Call) where
     pub at_holder : (n j : ℕ) → Holds (numbering_of c.model) n j → checked_at n ≡ pose_checked (kinds j) (entry c n)
     at_holder n j h = ap (λ (k : JointType). pose_checked k (entry c n)) (kind_held (numbering_of c.model) kinds t.model.numbers n j h)
 
-    good_at : (n : ℕ) → n < c.model.moving → GoodEntry c n → checked_at n ≡ Good
+    good_at : (n : ℕ) → n < c.model.moving → GoodEntry c n → checked_at n ≡ Ok tt
     good_at n l g =
         let h = one_holder c.model t.model n l in
         at_holder n h.0 h.1 ∙ says_pose (kinds h.0) (entry c n) (g h.0 h.1)
@@ -72,20 +73,20 @@ module _ (c : Call) where
   entry_turn n t r = entries_turn t.before ∙ first_bad checked_at n c.model.moving t.inside (λ k l. good_at t.before.before k (omega (arith, t.inside)) (t.good k l)) r
 
   -- none does
-  pub speeds_turn : SpeedsTurn c → start ≡ Good
+  pub speeds_turn : SpeedsTurn c → start ≡ Ok tt
   speeds_turn t = entries_turn t.before ∙ first_good checked_at c.model.moving (λ k l. good_at t.before.before k l (t.entries k l))
 
 -- ---- a list, and who takes it
 
-list_good : (xs : List Float) (m : ℕ) → GoodList xs m → list_checked xs m ≡ Good
+list_good : (xs : List Float) (m : ℕ) → GoodList xs m → list_checked xs m ≡ Ok tt
 unfolding list_checked
 list_good xs m g = rw (eq-eqb (length xs) m g.count, g.finite)
 
-pub list_wrong : (xs : List Float) (m : ℕ) → (length xs ≡ m → ⊥) → WrongLength ≡ list_checked xs m
+pub list_wrong : (xs : List Float) (m : ℕ) → (length xs ≡ m → ⊥) → Err WrongLength ≡ list_checked xs m
 unfolding list_checked
 list_wrong xs m n = rw (ne_eqb (length xs) m n)
 
-pub list_infinite : (xs : List Float) (m : ℕ) → length xs ≡ m → all_finite xs ≡ false → NonFiniteInput ≡ list_checked xs m
+pub list_infinite : (xs : List Float) (m : ℕ) → length xs ≡ m → all_finite xs ≡ false → Err NonFiniteInput ≡ list_checked xs m
 unfolding list_checked
 list_infinite xs m e h = rw (eq-eqb (length xs) m e, h)
 
@@ -95,7 +96,7 @@ module _ (c : Call) where
   speeds_taken Gravity e = cc
   speeds_taken VelocityProduct e = refl
 
-  pub speeds_good : (f : Function) → (takes_speeds f ≡ true → GoodList c.speeds c.model.moving) → speeds_checked c f ≡ Good
+  pub speeds_good : (f : Function) → (takes_speeds f ≡ true → GoodList c.speeds c.model.moving) → speeds_checked c f ≡ Ok tt
   speeds_good InverseDynamics h = list_good _ _ (h refl)
   speeds_good Gravity h = refl
   speeds_good VelocityProduct h = list_good _ _ (h refl)
@@ -105,7 +106,7 @@ module _ (c : Call) where
   accelerations_taken Gravity e = cc
   accelerations_taken VelocityProduct e = cc
 
-  pub accelerations_good : (f : Function) → (takes_accelerations f ≡ true → GoodList c.accelerations c.model.moving) → accelerations_checked c f ≡ Good
+  pub accelerations_good : (f : Function) → (takes_accelerations f ≡ true → GoodList c.accelerations c.model.moving) → accelerations_checked c f ≡ Ok tt
   accelerations_good InverseDynamics h = list_good _ _ (h refl)
   accelerations_good Gravity h = refl
   accelerations_good VelocityProduct h = refl

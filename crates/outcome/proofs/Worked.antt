@@ -17,8 +17,8 @@ use Rattle.spatial.specs.declared.Twist.{Twist}
 use Rattle.spatial.specs.declared.Vector3.{Vector3}
 use Rattle.tree.specs.Tree.{climb, value_at, total, total_of, root_sum}
 use Rattle.model.specs.Bases.{good_base}
-use Rattle.build.specs.Build.{pasted, blank_model, with_link, with_joint}
-use Rattle.model.specs.Flat.{vector_at, frame_at, link_at, kind_of}
+use Rattle.build.specs.Build.{blank_model, with_link, with_joint}
+use Rattle.model.specs.Tables.{kind_of}
 use Rattle.model.specs.Good.{counts_fit, good_model}
 use Rattle.model.specs.Joints.{axis_fits, fits, good_joint}
 use Rattle.model.specs.Links.{weighs, good_link}
@@ -32,10 +32,10 @@ use Rattle.model.specs.declared.Pose.{Pose}
 use Rattle.model.specs.declared.Pose.TheVariants.{Half, Slide}
 use Rattle.model.specs.declared.RootMode.TheVariants.{Fixed}
 use Rattle.build.proofs.Worked.{one, vector, zero₃, turned, joint, y, z, alone, arm, branches, largest}
-use Rattle.loads.specs.Checks.{link_id, finiteness, amount}
+use Rattle.loads.specs.Checks.{link_checked, wrench_checked, sum_checked, amount_checked}
 use Rattle.loads.specs.Sums.{start_sums, sum_step, sum_from, load_sums, prepared_sums}
 use Rattle.loads.specs.declared.Load.{Load}
-use Rattle.dynamics.specs.Flat.{value_in}
+use Rattle.dynamics.specs.Runs.{value_in}
 use Rattle.dynamics.specs.Frames.{half_turn, joint_frame}
 use Rattle.dynamics.specs.Motions.{root_motion, acceleration_at, carried, turning, sliding, driven, moved, inertial_wrench}
 use Rattle.dynamics.specs.Weights as Weights
@@ -93,5 +93,5 @@ pub record Table : Type 0 where
   pub w8 : call Gravity alone [] [] [] ≡ told 0 []
 
 pub worked_table : Table
-unfolding outcome refusal start_checked figures list_of good_base good_model counts_fit numbered numbered_at taken holder_of good_joint fits axis_fits good_link weighs positions_checked pose_checked first kind_of_number list_checked all all_finite is_finite unit_pair unit_quaternion unit_vector is_unit vector_sum scaled crossed dotted inverted multiplied rotated matrix_of transformed wrench_sum wrench_to_parent standard_gravity zero_vector zero_twist zero_wrench le add sub mul neg climb value_at total total_of root_sum link_at frame_at vector_at kind_of pasted blank_model with_link with_joint link_id finiteness amount start_sums sum_step sum_from load_sums prepared_sums value_in half_turn joint_frame root_motion acceleration_at carried turning sliding driven moved inertial_wrench Weights.turned gravity_wrench frame_of figure figure_of root_of
+unfolding outcome refusal start_checked figures list_of good_base good_model counts_fit numbered numbered_at taken holder_of good_joint fits axis_fits good_link weighs positions_checked pose_checked first kind_of_number list_checked all all_finite is_finite unit_pair unit_quaternion unit_vector is_unit vector_sum scaled crossed dotted inverted multiplied rotated matrix_of transformed wrench_sum wrench_to_parent standard_gravity zero_vector zero_twist zero_wrench le add sub mul neg climb value_at total total_of root_sum kind_of blank_model with_link with_joint link_checked wrench_checked sum_checked amount_checked start_sums sum_step sum_from load_sums prepared_sums value_in half_turn joint_frame root_motion acceleration_at carried turning sliding driven moved inertial_wrench Weights.turned gravity_wrench frame_of figure figure_of root_of
 worked_table = record { w1 = refl; w2 = refl; w3 = refl; w4 = refl; w5 = refl; w6 = refl; w7 = refl; w8 = refl }

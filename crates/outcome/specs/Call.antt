@@ -1,12 +1,12 @@
 -- A call of one of the three functions, however it is laid out.
 use Rattle.std.specs.Prelude.{ℕ, List, Float}
-use Rattle.model.specs.Flat.{Tables, view_of, tables_of}
+use Rattle.model.specs.Tables.{view_of}
 use Rattle.model.specs.View.{View}
 use Rattle.model.specs.declared.Model.{Model}
 use Rattle.model.specs.declared.BaseState.{BaseState}
 use Rattle.model.specs.declared.Pose.{Pose}
 use Rattle.model.specs.declared.RootMode.{RootMode}
-use Rattle.loads.specs.declared.LoadSums.{LoadSums}
+use Rattle.loads.specs.Sums.{LoadSums}
 use Rattle.outcome.specs.declared.Function.{Function}
 
 pub record Call : Type 0 where
@@ -22,13 +22,13 @@ pub record Call : Type 0 where
   -- the loads' first refusal, or their sums
   pub loads : LoadSums
 
--- over lent tables, with so many links and moving joints
-abbrev pub lent_call : Function → RootMode → Tables → ℕ → ℕ → BaseState → List Pose → ℕ → List Float → List Float → LoadSums → Call
-lent_call function mode tables count moving base positions entries speeds accelerations loads =
+-- over a model
+abbrev pub call_of : Function → RootMode → Model → BaseState → List Pose → ℕ → List Float → List Float → LoadSums → Call
+call_of function mode model base positions entries speeds accelerations loads =
     record {
       function = function;
       mode = mode;
-      model = view_of tables count moving;
+      model = view_of model;
       base = base;
       positions = positions;
       entries = entries;
@@ -36,7 +36,3 @@ lent_call function mode tables count moving base positions entries speeds accele
       accelerations = accelerations;
       loads = loads;
     }
-
--- over a model's tables
-abbrev pub call_of : Function → RootMode → Model → BaseState → List Pose → ℕ → List Float → List Float → LoadSums → Call
-call_of function mode model = lent_call function mode (tables_of model) model.count model.moving

@@ -18,7 +18,7 @@ use Rattle.model.specs.declared.RootMode.TheVariants.{Fixed, Floating}
 use Rattle.dynamics.specs.Motions.{root_motion}
 use Rattle.dynamics.specs.Weights.{turned}
 use Rattle.dynamics.specs.Run.{Run}
-use Rattle.dynamics.specs.Flat.{value_in}
+use Rattle.dynamics.specs.Runs.{value_in}
 use Rattle.dynamics.specs.Figures.{inverse_of, gravity_of, figure_of, root_of}
 use Rattle.outcome.specs.declared.Function.{Function}
 use Rattle.outcome.specs.declared.Function.TheVariants.{InverseDynamics, Gravity, VelocityProduct}

@@ -1,4 +1,3 @@
-pub mod Table
 pub mod Call
 pub mod Refusal
 pub mod Figures

@@ -1,98 +1,47 @@
 // Inverse dynamics, fixed and floating.
 ghost use Rattle.std.specs.Prelude.{◌≡◌, length};
-ghost use Rattle.spatial.specs.Tables.{wrenches_in};
-ghost use Rattle.model.specs.Flat.{Sized, lent};
-ghost use Rattle.model.specs.Poses.{poses_in};
-ghost use Rattle.outcome.specs.Call.{lent_call};
+ghost use Rattle.refusal.specs.Numbers.{number};
+ghost use Rattle.loads.specs.Sums.{summed};
+ghost use Rattle.outcome.specs.Call.{call_of};
 ghost use Rattle.outcome.specs.Outcome.{outcome, told};
 
-use crate::Function;
-use crate::checks::{check_output, check_start};
+use crate::checks::check_inverse;
 use crate::roots::{check_figures, inverse_root};
-use crate::solve::solve_inverse;
-use model::lists::check_list;
-use model::{BaseState, Checked, RootMode, number_of};
-use sweeps::inverse::inverse_dynamics_outward;
+use crate::scratch::DynamicsScratch;
+use crate::solve::solve;
+use crate::{Function, JointStates};
+use model::{BaseState, Model, RootMode};
+use refusal::Refusal;
+use sweeps::kernel::InverseDynamics;
+use sweeps::outward::outward;
 
-// Over lent tables, for callers who hold a model's, the positions' and those that the kernel works in: a refusal's number with the
-// output as found, or the figures.
-pub fn inverse_dynamics_lent<'a>(
+/// The joints' forces (N m or N), by number, after the root's wrench in floating mode; or a refusal, with the output as found (but for
+/// refusal 8, which leaves the figures). The load sums stand in the tables that are lent, with what their adding up came to, and are used up.
+pub fn inverse_dynamics_lent(
     mode: RootMode,
-    links: &'a [f64],
-    joints: &'a [f64],
-    kinds: &'a [u8],
-    parents: &'a [usize],
-    numbers: &'a [usize],
-    count: usize,
-    moving: usize,
-    base: BaseState,
-    shapes: &'a [u8],
-    poses: &'a [f64],
-    entries: usize,
-    speeds: &'a [f64],
-    accelerations: &'a [f64],
-    refused: u8,
-    frames: &mut [f64],
-    motions: &mut [f64],
-    sums: &mut [f64],
+    model: &Model,
+    base: &BaseState,
+    joints: JointStates,
+    loaded: Result<(), Refusal>,
+    scratch: &mut DynamicsScratch,
     output: &mut [f64],
-) -> u8
-    requires { Sized (lent links.now joints.now kinds.now parents.now numbers.now) × (length shapes.now ≡ 63) × (length poses.now ≡ 126) × (length frames.old ≡ 441) × (length motions.old ≡ 576) × (length sums.old ≡ 384) }
-    ensures { told result output.new ≡ outcome (lent_call Function.InverseDynamics mode (lent links.now joints.now kinds.now parents.now numbers.now) count moving base (poses_in shapes.now poses.now) entries speeds.now accelerations.now (record { number = refused; sums = wrenches_in sums.old })) output.old }
+) -> Result<(), Refusal>
+    ensures { told (number result) output.new ≡ outcome (call_of Function.InverseDynamics mode model.now base.now joints.entry.positions.now (length joints.entry.positions.now) joints.entry.speeds.now joints.entry.accelerations.now (summed loaded scratch.old.sums)) output.old }
 {
+    let kernel = InverseDynamics {
+        speeds: joints.speeds,
+        accelerations: joints.accelerations,
+    };
     let root = inverse_root(mode, base);
-    let passed = inverse_dynamics_outward(
-        links,
-        joints,
-        kinds,
-        parents,
-        numbers,
-        count,
-        moving,
+    let passed = outward(
+        &kernel,
+        model,
         root,
-        shapes,
-        poses,
-        speeds,
-        accelerations,
-        frames,
-        motions,
+        joints.positions,
+        &mut scratch.frames,
+        &mut scratch.values,
     );
-    let start = check_start(
-        passed, links, joints, kinds, parents, numbers, count, moving, base, shapes, poses, entries,
-    );
-    let Checked::Good = start else {
-        return number_of(start);
-    };
-    let speed = check_list(speeds, moving);
-    let Checked::Good = speed else {
-        return number_of(speed);
-    };
-    let acceleration = check_list(accelerations, moving);
-    let Checked::Good = acceleration else {
-        return number_of(acceleration);
-    };
-    let length = check_output(mode, output.len(), moving);
-    let Checked::Good = length else {
-        return number_of(length);
-    };
-    if refused != 0 {
-        return refused;
-    }
-    solve_inverse(
-        mode,
-        links,
-        joints,
-        kinds,
-        parents,
-        numbers,
-        count,
-        moving,
-        base.frame.rotation,
-        root,
-        frames,
-        motions,
-        sums,
-        output,
-    );
+    check_inverse(passed, mode, model, base, joints, loaded, output.len())?;
+    solve(&kernel, mode, model, base, scratch, output);
     check_figures(output)
 }

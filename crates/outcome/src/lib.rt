@@ -1,15 +1,17 @@
-// What a call comes to: its refusal or its figures, over a model's lent tables and in 01's order.
+// What a call comes to: its refusal or its figures, over a model and in the order of the rules.
 #![tactic(auto)]
 
 pub mod checks;
 pub mod gravity;
 pub mod inverse;
-pub mod poses;
 pub mod roots;
+pub mod scratch;
 pub mod solve;
 pub mod velocity;
 
-// What is asked of a robot.
+use model::Pose;
+
+/// What is asked of a robot.
 #[derive(Clone, Copy)]
 pub enum Function {
     InverseDynamics,
@@ -17,9 +19,11 @@ pub enum Function {
     VelocityProduct,
 }
 
-// Positions as the kernels read them: a code an entry, 0 of a pair and 1 of a distance, and two numbers an entry.
+/// Where the moving joints are and how they move, each list by the joints' numbers: a pose, a speed (rad/s or m/s) and an acceleration
+/// (rad/s2 or m/s2).
 #[derive(Clone, Copy)]
-pub struct PoseTables {
-    pub shapes: [u8; 63],
-    pub poses: [f64; 126],
+pub struct JointStates<'a> {
+    pub positions: &'a [Pose],
+    pub speeds: &'a [f64],
+    pub accelerations: &'a [f64],
 }

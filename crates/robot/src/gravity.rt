@@ -1,88 +1,74 @@
 // Gravity, fixed and floating.
-ghost use Rattle.std.specs.Prelude.{[], ◌≡◌};
+ghost use Rattle.std.specs.Prelude.{[], ◌≡◌, length};
+ghost use Rattle.refusal.specs.Numbers.{number};
 ghost use Rattle.loads.specs.Sums.{flat_sums, prepared_sums};
 ghost use Rattle.outcome.specs.Call.{call_of};
 ghost use Rattle.outcome.specs.Outcome.{outcome, told};
 
-use loads::sums::{flat_sums, prepare_indexed_loads, sum_loads};
-use loads::{Load, LoadSums};
+use loads::sums::{prepare_indexed_loads, sum_loads};
+use loads::{Load, LoadTable};
 use model::{BaseState, Model, Pose, RootMode};
 use outcome::Function;
+use outcome::checks::check_gravity;
 use outcome::gravity::gravity_lent;
-use outcome::poses::pose_tables;
-use sweeps::work::{no_frames, no_gravities};
+use outcome::scratch::GravityScratch;
+use refusal::{Refusal, number};
+use spatial::Wrench;
 
-// Over load sums already worked out.
-pub fn gravity_core(
-    mode: RootMode,
-    model: Model,
-    base: BaseState,
-    positions: [Pose; 63],
-    entries: usize,
-    loads: LoadSums,
-    output: &mut [f64],
-) -> u8
-    ensures { told result output.new ≡ outcome (call_of Function.Gravity mode model base positions entries [] [] loads) output.old }
-{
-    let count = model.count;
-    let moving = model.moving;
-    let tables = pose_tables(positions);
-    let refused = loads.number;
-    let wrenches = loads.sums;
-    let mut sums = flat_sums(wrenches);
-    let mut frames = no_frames();
-    let mut gravities = no_gravities();
-    gravity_lent(
-        mode,
-        &model.links,
-        &model.joints,
-        &model.kinds,
-        &model.parents,
-        &model.numbers,
-        count,
-        moving,
-        base,
-        &tables.shapes,
-        &tables.poses,
-        entries,
-        refused,
-        &mut frames,
-        &mut gravities,
-        &mut sums,
-        output,
-    )
-}
-
-// The same over a lent table of loads in three parts, six numbers a load.
-pub fn gravity_flat<'a>(
-    mode: RootMode,
-    model: Model,
-    base: BaseState,
-    positions: [Pose; 63],
-    entries: usize,
-    ids: &'a [u64],
-    links: &'a [usize],
-    numbers: &'a [f64],
-    output: &mut [f64],
-) -> u8
-    ensures { told result output.new ≡ outcome (call_of Function.Gravity mode model base positions entries [] [] (flat_sums model.id model.count ids.now links.now numbers.now)) output.old }
-{
-    let sums = prepare_indexed_loads(model.id, model.count, ids, links, numbers);
-    gravity_core(mode, model, base, positions, entries, sums, output)
-}
-
-// The same over a lent table of loads.
+/// The joints' forces (N m or N) that bear the weights and the loads, by number, after the root's wrench in floating mode; or a refusal,
+/// with the output as found (but for refusal 8, which leaves the figures).
 pub fn gravity(
     mode: RootMode,
-    model: Model,
-    base: BaseState,
-    positions: [Pose; 63],
-    entries: usize,
+    model: &Model,
+    base: &BaseState,
+    positions: &[Pose],
     loads: &[Load],
     output: &mut [f64],
-) -> u8
-    ensures { told result output.new ≡ outcome (call_of Function.Gravity mode model base positions entries [] [] (prepared_sums model.id model.count loads.now)) output.old }
+) -> Result<(), Refusal>
+    ensures { told (number result) output.new ≡ outcome (call_of Function.Gravity mode model.now base.now positions.now (length positions.now) [] [] (prepared_sums model.now.id model.now.count loads.now)) output.old }
 {
-    let sums = sum_loads(loads, model.id, model.count);
-    gravity_core(mode, model, base, positions, entries, sums, output)
+    let mut scratch = GravityScratch::new();
+    let loaded = sum_loads(model.id, model.count, loads, &mut scratch.sums);
+    gravity_lent(mode, model, base, positions, loaded, &mut scratch, output)
+}
+
+/// The same over a table of loads in three parts.
+pub fn gravity_flat(
+    mode: RootMode,
+    model: &Model,
+    base: &BaseState,
+    positions: &[Pose],
+    loads: LoadTable,
+    output: &mut [f64],
+) -> Result<(), Refusal>
+    ensures { told (number result) output.new ≡ outcome (call_of Function.Gravity mode model.now base.now positions.now (length positions.now) [] [] (flat_sums model.now.id model.now.count loads.entry.ids.now loads.entry.links.now loads.entry.numbers.now)) output.old }
+{
+    let mut scratch = GravityScratch::new();
+    let loaded = prepare_indexed_loads(model.id, model.count, loads, &mut scratch.sums);
+    gravity_lent(mode, model, base, positions, loaded, &mut scratch, output)
+}
+
+/// The same over load sums and the number of their refusal, 0 for none: the number is answered where no check before it refuses,
+/// whatever it is.
+pub fn gravity_core(
+    mode: RootMode,
+    model: &Model,
+    base: &BaseState,
+    positions: &[Pose],
+    refused: u8,
+    sums: [Wrench; 64],
+    output: &mut [f64],
+) -> u8
+    ensures { told result output.new ≡ outcome (call_of Function.Gravity mode model.now base.now positions.now (length positions.now) [] [] (record { number = refused; sums = sums })) output.old }
+{
+    if refused != 0 {
+        let answer = check_gravity(false, mode, model, base, positions, Ok(()), output.len());
+        return match answer {
+            Ok(()) => refused,
+            Err(refusal) => refusal.number(),
+        };
+    }
+    let mut scratch = GravityScratch::new();
+    scratch.sums = sums;
+    number(gravity_lent(mode, model, base, positions, Ok(()), &mut scratch, output))
 }

@@ -1,116 +1,74 @@
 // Inverse dynamics, fixed and floating.
-ghost use Rattle.std.specs.Prelude.{◌≡◌};
+ghost use Rattle.std.specs.Prelude.{◌≡◌, length};
+ghost use Rattle.refusal.specs.Numbers.{number};
 ghost use Rattle.loads.specs.Sums.{flat_sums, prepared_sums};
 ghost use Rattle.outcome.specs.Call.{call_of};
 ghost use Rattle.outcome.specs.Outcome.{outcome, told};
 
-use loads::sums::{flat_sums, prepare_indexed_loads, sum_loads};
-use loads::{Load, LoadSums};
-use model::{BaseState, Model, Pose, RootMode};
-use outcome::Function;
+use loads::sums::{prepare_indexed_loads, sum_loads};
+use loads::{Load, LoadTable};
+use model::{BaseState, Model, RootMode};
+use outcome::checks::check_inverse;
 use outcome::inverse::inverse_dynamics_lent;
-use outcome::poses::pose_tables;
-use sweeps::work::{no_frames, no_motions};
+use outcome::scratch::DynamicsScratch;
+use outcome::{Function, JointStates};
+use refusal::{Refusal, number};
+use spatial::Wrench;
 
-// Over load sums already worked out.
-pub fn inverse_dynamics_core<'a>(
+/// The joints' forces (N m or N), by number, after the root's wrench in floating mode; or a refusal, with the output as found (but for
+/// refusal 8, which leaves the figures).
+pub fn inverse_dynamics(
     mode: RootMode,
-    model: Model,
-    base: BaseState,
-    positions: [Pose; 63],
-    entries: usize,
-    speeds: &'a [f64],
-    accelerations: &'a [f64],
-    loads: LoadSums,
-    output: &mut [f64],
-) -> u8
-    ensures { told result output.new ≡ outcome (call_of Function.InverseDynamics mode model base positions entries speeds.now accelerations.now loads) output.old }
-{
-    let count = model.count;
-    let moving = model.moving;
-    let tables = pose_tables(positions);
-    let refused = loads.number;
-    let wrenches = loads.sums;
-    let mut sums = flat_sums(wrenches);
-    let mut frames = no_frames();
-    let mut motions = no_motions();
-    inverse_dynamics_lent(
-        mode,
-        &model.links,
-        &model.joints,
-        &model.kinds,
-        &model.parents,
-        &model.numbers,
-        count,
-        moving,
-        base,
-        &tables.shapes,
-        &tables.poses,
-        entries,
-        speeds,
-        accelerations,
-        refused,
-        &mut frames,
-        &mut motions,
-        &mut sums,
-        output,
-    )
-}
-
-// The same over a lent table of loads in three parts, six numbers a load.
-pub fn inverse_dynamics_flat<'a>(
-    mode: RootMode,
-    model: Model,
-    base: BaseState,
-    positions: [Pose; 63],
-    entries: usize,
-    speeds: &'a [f64],
-    accelerations: &'a [f64],
-    ids: &'a [u64],
-    links: &'a [usize],
-    numbers: &'a [f64],
-    output: &mut [f64],
-) -> u8
-    ensures { told result output.new ≡ outcome (call_of Function.InverseDynamics mode model base positions entries speeds.now accelerations.now (flat_sums model.id model.count ids.now links.now numbers.now)) output.old }
-{
-    let sums = prepare_indexed_loads(model.id, model.count, ids, links, numbers);
-    inverse_dynamics_core(
-        mode,
-        model,
-        base,
-        positions,
-        entries,
-        speeds,
-        accelerations,
-        sums,
-        output,
-    )
-}
-
-// The same over a lent table of loads.
-pub fn inverse_dynamics<'a>(
-    mode: RootMode,
-    model: Model,
-    base: BaseState,
-    positions: [Pose; 63],
-    entries: usize,
-    speeds: &'a [f64],
-    accelerations: &'a [f64],
+    model: &Model,
+    base: &BaseState,
+    joints: JointStates,
     loads: &[Load],
     output: &mut [f64],
-) -> u8
-    ensures { told result output.new ≡ outcome (call_of Function.InverseDynamics mode model base positions entries speeds.now accelerations.now (prepared_sums model.id model.count loads.now)) output.old }
+) -> Result<(), Refusal>
+    ensures { told (number result) output.new ≡ outcome (call_of Function.InverseDynamics mode model.now base.now joints.entry.positions.now (length joints.entry.positions.now) joints.entry.speeds.now joints.entry.accelerations.now (prepared_sums model.now.id model.now.count loads.now)) output.old }
 {
-    let sums = sum_loads(loads, model.id, model.count);
-    inverse_dynamics_core(
-        mode,
-        model,
-        base,
-        positions,
-        entries,
-        speeds,
-        accelerations,
-        sums,
-        output,
-    )
+    let mut scratch = DynamicsScratch::new();
+    let loaded = sum_loads(model.id, model.count, loads, &mut scratch.sums);
+    inverse_dynamics_lent(mode, model, base, joints, loaded, &mut scratch, output)
+}
+
+/// The same over a table of loads in three parts.
+pub fn inverse_dynamics_flat(
+    mode: RootMode,
+    model: &Model,
+    base: &BaseState,
+    joints: JointStates,
+    loads: LoadTable,
+    output: &mut [f64],
+) -> Result<(), Refusal>
+    ensures { told (number result) output.new ≡ outcome (call_of Function.InverseDynamics mode model.now base.now joints.entry.positions.now (length joints.entry.positions.now) joints.entry.speeds.now joints.entry.accelerations.now (flat_sums model.now.id model.now.count loads.entry.ids.now loads.entry.links.now loads.entry.numbers.now)) output.old }
+{
+    let mut scratch = DynamicsScratch::new();
+    let loaded = prepare_indexed_loads(model.id, model.count, loads, &mut scratch.sums);
+    inverse_dynamics_lent(mode, model, base, joints, loaded, &mut scratch, output)
+}
+
+/// The same over load sums and the number of their refusal, 0 for none: the number is answered where no check before it refuses,
+/// whatever it is.
+pub fn inverse_dynamics_core(
+    mode: RootMode,
+    model: &Model,
+    base: &BaseState,
+    joints: JointStates,
+    refused: u8,
+    sums: [Wrench; 64],
+    output: &mut [f64],
+) -> u8
+    ensures { told result output.new ≡ outcome (call_of Function.InverseDynamics mode model.now base.now joints.entry.positions.now (length joints.entry.positions.now) joints.entry.speeds.now joints.entry.accelerations.now (record { number = refused; sums = sums })) output.old }
+{
+    if refused != 0 {
+        let answer = check_inverse(false, mode, model, base, joints, Ok(()), output.len());
+        return match answer {
+            Ok(()) => refused,
+            Err(refusal) => refusal.number(),
+        };
+    }
+    let mut scratch = DynamicsScratch::new();
+    scratch.sums = sums;
+    number(inverse_dynamics_lent(mode, model, base, joints, Ok(()), &mut scratch, output))
 }

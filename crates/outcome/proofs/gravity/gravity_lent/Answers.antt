@@ -1,213 +1,37 @@
-use mathlib.Core.Path.{◌≡◌, refl, sym, ap, ◌∙◌}
-use lib.ListN.{length}
-use mathlib.Core.List.{[]}
-use Rattle.model.specs.Flat.{tables_of, model_view}
-use Rattle.model.specs.declared.Checked.TheVariants.{Good}
-use Rattle.outcome.specs.declared.Function.TheVariants.{Gravity}
-use Rattle.outcome.specs.Call.{call_of}
-use Rattle.outcome.specs.Refusal.{start_checked, output_checked}
-use Rattle.outcome.proofs.OutcomeLaws.{stop_start, stop_output, stop_loads, go_on}
-use Rattle.model.specs.Good.{GoodModel}
+use Rattle.std.proofs.Common.{◌∙◌, ap, arith, length, []}
+use Rattle.std.proofs.lemmas.Result.{err_from_is_err_and}
 use Rattle.model.proofs.GoodLaws.{few_moving}
-use Rattle.outcome.proofs.PassedLaws.{counts_good, model_good, positions_good, output_length_if_good}
-use Rattle.outcome.proofs.FigureLaws.{gravity_figures}
+use Rattle.model.specs.Tables.{view_of}
 use Rattle.dynamics.specs.Weights.{turned}
+use Rattle.sweeps.specs.Kernels.{gravity_step}
+use Rattle.loads.specs.Sums.{summed}
+use Rattle.outcome.specs.Call.{call_of}
+use Rattle.outcome.specs.declared.Function.TheVariants.{Gravity}
+use Rattle.outcome.proofs.FigureLaws.{gravity_figures}
 use Rattle.outcome.proofs.OutputLaws.{fit_good}
-use Rattle.outcome.proofs.TableLaws.{tabled}
-use Rattle.model.specs.Poses.{poses_in}
-use Rattle.spatial.specs.Tables.{wrenches_in}
+use Rattle.outcome.proofs.PassedLaws.{counts_good}
+use Rattle.outcome.proofs.ReadyLaws.{refused_call, accepted_call, good, positions_fit, places_fit}
 use Rattle.outcome.proofs.gravity.gravity_lent.Goals as goal
 
-pub gravity_outward-passed-requires : goal.gravity_outward-passed-requires
-gravity_outward-passed-requires c = (c.requires.0, c.requires.1, c.requires.2, c.requires.3, c.requires.4)
+pub returns-in_err-check_gravity : goal.returns-in_err-check_gravity
+returns-in_err-check_gravity c =
+    let p = err_from_is_err_and c.from_residual.result c.from_residual.ensures.1 in
+    rw (p.1, p.2) (refused_call _ c.args.output.now c.in_err-check_gravity.field-0.0 (c.in_err-check_gravity.ensures c.args.scratch.now.sums))
 
-pub check_start-start-requires : goal.check_start-start-requires
-check_start-start-requires c = (c.requires.0, c.requires.1, c.requires.2, c.gravity_outward-passed.ensures.0)
-
-pub shape_of-frames-in_default : goal.shape_of-frames-in_default
-shape_of-frames-in_default c = c.gravity_outward-passed.auto.frames
-
-pub shape_of-gravities-in_default : goal.shape_of-gravities-in_default
-shape_of-gravities-in_default c = c.gravity_outward-passed.auto.gravities
-
-pub returns-in_default : goal.returns-in_default
-returns-in_default c = stop_start ((call_of Gravity c.args.mode ((record {
-  id = 0;
-  count = c.args.count;
-  moving = c.args.moving;
-  kinds = c.args.kinds.now;
-  parents = c.args.parents.now;
-  numbers = c.args.numbers.now;
-  links = c.args.links.now;
-  joints = c.args.joints.now;
-})) c.args.base ((poses_in c.args.shapes.now c.args.poses.now)) c.args.entries [] [] (record { number = c.args.refused; sums = wrenches_in c.args.sums.now }))) _ _ _ c.number_of.ensures c.in_default.not-Good c.check_start-start.ensures
-
-pub shape_of-frames-in_default-length : goal.shape_of-frames-in_default-length
-shape_of-frames-in_default-length c = c.gravity_outward-passed.auto.frames
-
-pub shape_of-gravities-in_default-length : goal.shape_of-gravities-in_default-length
-shape_of-gravities-in_default-length c = c.gravity_outward-passed.auto.gravities
-
-pub returns-in_default-length : goal.returns-in_default-length
-returns-in_default-length c =
-    let started : (start_checked (model_view ((record {
-      id = 0;
-      count = c.args.count;
-      moving = c.args.moving;
-      kinds = c.args.kinds.now;
-      parents = c.args.parents.now;
-      numbers = c.args.numbers.now;
-      links = c.args.links.now;
-      joints = c.args.joints.now;
-    }))) c.args.base ((poses_in c.args.shapes.now c.args.poses.now)) c.args.entries ≡ Good) = sym c.check_start-start.ensures ∙ c.in-Good.is in
-    stop_output ((call_of Gravity c.args.mode ((record {
-      id = 0;
-      count = c.args.count;
-      moving = c.args.moving;
-      kinds = c.args.kinds.now;
-      parents = c.args.parents.now;
-      numbers = c.args.numbers.now;
-      links = c.args.links.now;
-      joints = c.args.joints.now;
-    })) c.args.base ((poses_in c.args.shapes.now c.args.poses.now)) c.args.entries [] [] (record { number = c.args.refused; sums = wrenches_in c.args.sums.now }))) _ (started) refl refl _ _ c.number_of-in_default-length.ensures c.in_default-length.not-Good c.check_output-length.ensures
-
-pub shape_of-frames-then-refused-ne0 : goal.shape_of-frames-then-refused-ne0
-shape_of-frames-then-refused-ne0 c = c.gravity_outward-passed.auto.frames
-
-pub shape_of-gravities-then-refused-ne0 : goal.shape_of-gravities-then-refused-ne0
-shape_of-gravities-then-refused-ne0 c = c.gravity_outward-passed.auto.gravities
-
-pub returns-then-refused-ne0 : goal.returns-then-refused-ne0
-returns-then-refused-ne0 c =
-    let started : (start_checked (model_view ((record {
-      id = 0;
-      count = c.args.count;
-      moving = c.args.moving;
-      kinds = c.args.kinds.now;
-      parents = c.args.parents.now;
-      numbers = c.args.numbers.now;
-      links = c.args.links.now;
-      joints = c.args.joints.now;
-    }))) c.args.base ((poses_in c.args.shapes.now c.args.poses.now)) c.args.entries ≡ Good) = sym c.check_start-start.ensures ∙ c.in-Good.is in
-    let placed : (output_checked c.args.mode c.args.moving (length c.args.output.now) ≡ Good) = sym c.check_output-length.ensures ∙ c.in-Good-length.is in
-    stop_loads ((call_of Gravity c.args.mode ((record {
-      id = 0;
-      count = c.args.count;
-      moving = c.args.moving;
-      kinds = c.args.kinds.now;
-      parents = c.args.parents.now;
-      numbers = c.args.numbers.now;
-      links = c.args.links.now;
-      joints = c.args.joints.now;
-    })) c.args.base ((poses_in c.args.shapes.now c.args.poses.now)) c.args.entries [] [] (record { number = c.args.refused; sums = wrenches_in c.args.sums.now }))) _ (started) refl refl (placed) _ refl c.if-refused-ne0.true
-
-pub solve_gravity-requires : goal.solve_gravity-requires
-solve_gravity-requires c =
-    let started : (start_checked (model_view ((record {
-      id = 0;
-      count = c.args.count;
-      moving = c.args.moving;
-      kinds = c.args.kinds.now;
-      parents = c.args.parents.now;
-      numbers = c.args.numbers.now;
-      links = c.args.links.now;
-      joints = c.args.joints.now;
-    }))) c.args.base ((poses_in c.args.shapes.now c.args.poses.now)) c.args.entries ≡ Good) = sym c.check_start-start.ensures ∙ c.in-Good.is in
-    let good : GoodModel (model_view ((record {
-      id = 0;
-      count = c.args.count;
-      moving = c.args.moving;
-      kinds = c.args.kinds.now;
-      parents = c.args.parents.now;
-      numbers = c.args.numbers.now;
-      links = c.args.links.now;
-      joints = c.args.joints.now;
-    }))) = model_good _ _ _ _ (started) in
-    let placed : (output_checked c.args.mode c.args.moving (length c.args.output.now) ≡ Good) = sym c.check_output-length.ensures ∙ c.in-Good-length.is in (
-      c.requires.0,
-      good,
-      output_length_if_good c.args.mode c.args.moving (length c.args.output.now) (placed),
-      c.gravity_outward-passed.auto.frames ∙ c.requires.3,
-      c.gravity_outward-passed.auto.gravities ∙ c.requires.4,
-      c.requires.5,
-    )
-
-pub shape_of-frames : goal.shape_of-frames
-shape_of-frames c = c.gravity_outward-passed.auto.frames
-
-pub shape_of-gravities : goal.shape_of-gravities
-shape_of-gravities c = c.gravity_outward-passed.auto.gravities
+pub solve-requires : goal.solve-requires
+solve-requires c = (omega arith, (good _ _ (c.in_ok-check_gravity.ensures []), places_fit _ _ (c.in_ok-check_gravity.ensures [])))
 
 pub returns : goal.returns
 returns c =
-    let started : (start_checked (model_view ((record {
-      id = 0;
-      count = c.args.count;
-      moving = c.args.moving;
-      kinds = c.args.kinds.now;
-      parents = c.args.parents.now;
-      numbers = c.args.numbers.now;
-      links = c.args.links.now;
-      joints = c.args.joints.now;
-    }))) c.args.base ((poses_in c.args.shapes.now c.args.poses.now)) c.args.entries ≡ Good) = sym c.check_start-start.ensures ∙ c.in-Good.is in
-    let good : GoodModel (model_view ((record {
-      id = 0;
-      count = c.args.count;
-      moving = c.args.moving;
-      kinds = c.args.kinds.now;
-      parents = c.args.parents.now;
-      numbers = c.args.numbers.now;
-      links = c.args.links.now;
-      joints = c.args.joints.now;
-    }))) = model_good _ _ _ _ (started) in
-    let placed : (output_checked c.args.mode c.args.moving (length c.args.output.now) ≡ Good) = sym c.check_output-length.ensures ∙ c.in-Good-length.is in
-    let g = good in
-    go_on ((call_of Gravity c.args.mode ((record {
-      id = 0;
-      count = c.args.count;
-      moving = c.args.moving;
-      kinds = c.args.kinds.now;
-      parents = c.args.parents.now;
-      numbers = c.args.numbers.now;
-      links = c.args.links.now;
-      joints = c.args.joints.now;
-    })) c.args.base ((poses_in c.args.shapes.now c.args.poses.now)) c.args.entries [] [] (record { number = c.args.refused; sums = wrenches_in c.args.sums.now }))) c.args.output.now (started) refl refl (placed) c.if-refused-ne0.false _ _
-    (c.solve_gravity.ensures c.args.poses.now (c.gravity_outward-passed.ensures.1 (counts_good (model_view ((record {
-      id = 0;
-      count = c.args.count;
-      moving = c.args.moving;
-      kinds = c.args.kinds.now;
-      parents = c.args.parents.now;
-      numbers = c.args.numbers.now;
-      links = c.args.links.now;
-      joints = c.args.joints.now;
-    }))) g) (fit_good (tables_of ((record {
-      id = 0;
-      count = c.args.count;
-      moving = c.args.moving;
-      kinds = c.args.kinds.now;
-      parents = c.args.parents.now;
-      numbers = c.args.numbers.now;
-      links = c.args.links.now;
-      joints = c.args.joints.now;
-    }))) c.args.count c.args.moving [] [] [] [] g))
-    ∙ gravity_figures ((record {
-      id = 0;
-      count = c.args.count;
-      moving = c.args.moving;
-      kinds = c.args.kinds.now;
-      parents = c.args.parents.now;
-      numbers = c.args.numbers.now;
-      links = c.args.links.now;
-      joints = c.args.joints.now;
-    })) g ((poses_in c.args.shapes.now c.args.poses.now)) c.args.entries (positions_good _ _ _ _ (started)) c.args.poses.now (tabled c.args.shapes.now c.args.poses.now c.args.moving (few_moving _ g)) c.args.mode c.args.base ((call_of Gravity c.args.mode ((record {
-      id = 0;
-      count = c.args.count;
-      moving = c.args.moving;
-      kinds = c.args.kinds.now;
-      parents = c.args.parents.now;
-      numbers = c.args.numbers.now;
-      links = c.args.links.now;
-      joints = c.args.joints.now;
-    })) c.args.base ((poses_in c.args.shapes.now c.args.poses.now)) c.args.entries [] [] (record { number = c.args.refused; sums = wrenches_in c.args.sums.now }))).loads _ (c.turned-root.ensures ∙ ap (turned c.args.base.frame.rotation) c.standard_gravity.ensures))
+    let m = c.args.model.now in
+    let ps = c.args.positions.now in
+    let loads = summed c.args.loaded c.args.scratch.now.sums in
+    let call = call_of Gravity c.args.mode m c.args.base.now ps (length ps) [] [] loads in
+    let passed = c.in_ok-check_gravity.ensures c.args.scratch.now.sums in
+    let g = good call (length c.args.output.now) passed in
+    let swept =
+    c.outward-passed.ensures.swept (counts_good (view_of m) g) (fit_good m [] [] [] [] g) (omega (arith, positions_fit call (length c.args.output.now) passed)) (few_moving (view_of m) g) in
+    let root = c.turned-root.ensures ∙ ap (turned c.args.base.now.frame.rotation) c.standard_gravity.ensures in
+    accepted_call call c.args.output.now c.solve.new.output c.check_figures.result passed
+    (c.solve.ensures gravity_step ps c.turned-root.result swept ∙ gravity_figures m g c.args.mode c.args.base.now ps (length ps) loads c.turned-root.result root)
     c.check_figures.ensures

@@ -1,15 +1,18 @@
-use mathlib.Core.List.{List, []}
-use mathlib.Core.Path.{ap, ◌∙◌}
-use Rattle.model.specs.declared.Pose.{Pose}
-use Rattle.outcome.specs.Call.{call_of}
-use Rattle.spatial.specs.Tables.{wrenches_in}
-use Rattle.spatial.specs.declared.Wrench.{Wrench}
-use Rattle.outcome.specs.Outcome.{Outcome, outcome}
+use Rattle.std.proofs.Common.{◌∙◌, ap, arith, [], refl, sym, length}
+use Rattle.refusal.specs.Numbers.{number}
 use Rattle.outcome.specs.declared.Function.TheVariants.{Gravity}
+use Rattle.outcome.proofs.ReadyLaws.{loads_stop, checks_stop}
 use Rattle.robot.proofs.gravity.gravity_core.Goals as goal
 
-pub returns : goal.returns
-returns c = let asked : List Pose → List Wrench → Outcome = λ ps ws. outcome (call_of Gravity c.args.mode c.args.model c.args.base ps c.args.entries [] [] (record { number = c.args.loads.number; sums = ws })) c.args.output.now in
-    c.gravity_lent.ensures
-    ∙ ap (λ (ps : List Pose). asked ps (wrenches_in c.flat_sums-sums.result)) c.pose_tables-tables.ensures.2
-    ∙ ap (λ (ws : List Wrench). asked c.args.positions ws) c.flat_sums-sums.ensures.1
+pub returns-in-Ok : goal.returns-in-Ok
+returns-in-Ok c =
+    let a = c.args in
+    loads_stop Gravity a.mode a.model.now a.base.now a.positions.now (length a.positions.now) [] [] a.sums refl a.refused 0 a.output.now
+    (sym (ap number c.in-Ok.is) ∙ c.check_gravity-answer.ensures a.sums) (omega (arith, c.if-refused-ne0.true))
+
+pub returns-in-Err : goal.returns-in-Err
+returns-in-Err c =
+    let a = c.args in
+    rw c.number.ensures
+    (checks_stop Gravity a.mode a.model.now a.base.now a.positions.now (length a.positions.now) [] [] a.sums refl c.in-Err.refusal a.refused a.output.now
+    (sym (ap number c.in-Err.is) ∙ c.check_gravity-answer.ensures a.sums) (omega (arith, c.if-refused-ne0.true)))
