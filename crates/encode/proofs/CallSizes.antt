@@ -19,17 +19,9 @@ use Rattle.outcome.specs.declared.Function.{Function}
 use Rattle.wire.specs.Big.{bytes16, bytes32, bytes64, float_bytes}
 use Rattle.wire.proofs.BytesLaws.{length_float_bytes}
 use Rattle.encode.specs.Joined.{joined}
-use Rattle.encode.specs.Calls.{pose_tag, pose_floats, pose_bytes, load_bytes, call_start, call_head, call_lists, Asked, call_bytes, counts_fit}
+use Rattle.encode.specs.Calls.{pose_tag, pose_floats, pose_bytes, load_bytes, call_start, call_head, call_lists, Asked, call_bytes, counts_fit, CallFit, Counted, call_counts_fit}
 use Rattle.encode.proofs.JoinedLaws.{length_joined}
 use Rattle.encode.proofs.PartLaws.{length_part}
-
--- what the counts of a writable call are: m, the speeds, the accelerations, the loads and their numbers
-pub record CallFit (m s a k x : ℕ) : Type 0 where
-  pub few : k ≤ 256
-  pub moving : m ≤ 63
-  pub speeds : s ≡ m
-  pub accelerations : a ≡ m
-  pub sixes : x ≡ 6 * k
 
 pub call_fit : (m s a k x : ℕ) → counts_fit m s a k x ≡ true → CallFit m s a k x
 unfolding counts_fit
@@ -54,8 +46,8 @@ pub length_pose : (ps : List Pose) (i : ℕ) → length (pose_bytes ps i) ≡ 17
 unfolding pose_bytes
 length_pose ps i = length_one (get_or ps i no_pose)
 
-pub length_poses : (ps : List Pose) (m : ℕ) → length (joined m (pose_bytes ps)) ≡ 17 * m
-length_poses ps m = length_joined m 17 (pose_bytes ps) (λ i h. length_pose ps i)
+pub length_poses : (ps : List Pose) → length (joined (length ps) (pose_bytes ps)) ≡ 17 * length ps
+length_poses ps = length_joined (length ps) 17 (pose_bytes ps) (λ i h. length_pose ps i)
 
 pub length_load : (links : List ℕ) (numbers : List Float) (i : ℕ) → 6 * i + 6 ≤ length numbers → length (load_bytes links numbers i) ≡ 50
 unfolding load_bytes bytes16
@@ -69,17 +61,25 @@ pub length_call_head : (f : Function) (mode : RootMode) (base : BaseState) (m k 
 unfolding call_head call_start bytes32 bytes16
 length_call_head f mode base m k = simp length-append (omega (arith, length_float_bytes (base_numbers base)))
 
-pub length_lists : (ps : List Pose) (m : ℕ) (speeds accelerations : List Float) (links : List ℕ) (numbers : List Float)
-    → CallFit m (length speeds) (length accelerations) (length links) (length numbers)
-    → length (call_lists ps m speeds accelerations links numbers) ≡ 33 * m + 50 * length links
-unfolding call_lists
-length_lists ps m speeds accelerations links numbers h =
-    simp length-append
-    (omega (arith, length_poses ps m, length_float_bytes speeds, length_float_bytes accelerations, length_loads links numbers h.sixes))
+module _ (c : Asked) where
+  abbrev pub head_of : List ℕ
+  head_of = call_head c.function c.mode c.base (length c.positions) (length c.links)
 
-pub length_call : (c : Asked) → CallFit c.entries (length c.speeds) (length c.accelerations) (length c.links) (length c.numbers)
-    → length (call_bytes c) ≡ 164 + 33 * c.entries + 50 * length c.links
-unfolding call_bytes
-length_call c h =
-    simp length-append
-    (omega (arith, length_call_head c.function c.mode c.base c.entries (length c.links), length_lists c.positions c.entries c.speeds c.accelerations c.links c.numbers h))
+  abbrev pub lists_of : List ℕ
+  lists_of = call_lists c.positions c.speeds c.accelerations c.links c.numbers
+
+  pub counted : call_counts_fit c ≡ true → Counted c
+  counted h = call_fit _ _ _ _ _ h
+
+  pub length_head_of : length head_of ≡ 164
+  length_head_of = length_call_head c.function c.mode c.base (length c.positions) (length c.links)
+
+  pub length_lists : Counted c → length lists_of ≡ 33 * length c.positions + 50 * length c.links
+  unfolding call_lists
+  length_lists h =
+      simp length-append
+      (omega (arith, length_poses c.positions, length_float_bytes c.speeds, length_float_bytes c.accelerations, length_loads c.links c.numbers h.sixes))
+
+  pub length_call : Counted c → length (call_bytes c) ≡ 164 + 33 * length c.positions + 50 * length c.links
+  unfolding call_bytes
+  length_call h = simp length-append (omega (arith, length_head_of, length_lists h))

@@ -16,10 +16,6 @@ length_part w a xs h = length-take-le w (drop a xs) (simp length-drop (omega ari
 pub part_placed : (s : List ℕ) (at a w : ℕ) (xs : List Float) → placed s at (float_bytes (take (a + w - a) (drop a xs))) ≡ placed s at (float_bytes (take w (drop a xs)))
 part_placed s at a w xs = ap (λ (k : ℕ). placed s at (float_bytes (take k (drop a xs)))) (let e : a + w - a ≡ w = omega arith in e)
 
--- a part from the table's front
-pub front_placed : (s : List ℕ) (at w : ℕ) (xs : List Float) → placed s at (float_bytes (take (w - 0) xs)) ≡ placed s at (float_bytes (take w xs))
-front_placed s at w xs = ap (λ (k : ℕ). placed s at (float_bytes (take k xs))) (let e : w - 0 ≡ w = omega arith in e)
-
 -- each of a part of a list of doubles is one
 pub part_doubles : (w a : ℕ) (xs : List Float) → a + w ≤ length xs → Doubles xs → Doubles (take w (drop a xs))
 part_doubles w a xs h d =

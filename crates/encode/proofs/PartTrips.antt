@@ -1,8 +1,8 @@
--- A base state, a pose and a load, read where their bytes stand.
+-- A link, a joint's entry, a base state, a pose and a load, read where their bytes stand.
 use Prim.Native.Nat.{ℕ, ◌+◌, ◌*◌, ◌≤◌, ◌<◌}
 use mathlib.Core.Path.{◌≡◌, refl, ap, subst, ◌∙◌}
 use mathlib.Core.Bool.{true}
-use mathlib.Core.List.{List, [], ◌∷◌}
+use mathlib.Core.List.{List, [], ◌∷◌, ◌++◌}
 use native.Mathlib.Omega.{arith}
 use lib.ListN.{length, get_or, take, drop}
 use lib.Seq.{get_or-take, get_or-drop}
@@ -11,15 +11,85 @@ use borrow.Author.Tests.{eq-eqb}
 use Rattle.spatial.specs.Constants.{plus_zero}
 use Rattle.spatial.specs.Tables.{wrench_at}
 use Rattle.model.specs.Bases.{base_numbers}
+use Rattle.model.specs.Joints.{joint_numbers}
+use Rattle.model.specs.Links.{link_numbers}
+use Rattle.model.specs.Tables.{joint_of}
 use Rattle.model.specs.declared.BaseState.{BaseState}
+use Rattle.model.specs.declared.JointEntry.{JointEntry}
+use Rattle.model.specs.declared.Link.{Link}
 use Rattle.model.specs.declared.Pose.{Pose}
 use Rattle.model.specs.declared.Pose.TheVariants.{Half, Slide}
 use Rattle.wire.specs.Big.{be16, be64, f64_at, bytes16, bytes64, float_bytes}
 use Rattle.wire.proofs.StandsLaws.{Stands, Doubles, stands_left, stands_right, stands_head, be16_stands, be64_stands, floats_stand, float_stands}
 use Rattle.records.specs.Layout.{pose_laid}
-use Rattle.records.specs.Calls.{vector_in, twist_in, frame_in, base_in, pose_in, load_in}
+use Rattle.records.specs.Parts.{vector_in, twist_in, frame_in}
+use Rattle.records.specs.Models.{link_in, entry_in}
+use Rattle.records.specs.Calls.{base_in, pose_in, load_in}
+use Rattle.encode.specs.Models.{entry_bytes}
 use Rattle.encode.specs.Calls.{pose_tag, pose_floats, load_bytes}
 use Rattle.encode.proofs.PartLaws.{length_part, part_doubles}
+
+pub link_stands : {s : List ℕ} (at : ℕ) (l : Link) → Doubles (link_numbers l) → Stands s at (float_bytes (link_numbers l)) → link_in s at ≡ l
+unfolding link_in vector_in
+link_stands {s} at l d h =
+    let f : (p i : ℕ) → i < 13 → at + 8 * i ≡ p → f64_at s p ≡ get_or (link_numbers l) i nan = λ p i k e. float_stands p (link_numbers l) i d k h e in
+    rw (
+      f at 0 (omega arith) (omega arith),
+      f (at + 8) 1 (omega arith) (omega arith),
+      f (at + 8 + 8) 2 (omega arith) (omega arith),
+      f (at + 8 + 16) 3 (omega arith) (omega arith),
+      f (at + 32) 4 (omega arith) (omega arith),
+      f (at + 32 + 8) 5 (omega arith) (omega arith),
+      f (at + 32 + 16) 6 (omega arith) (omega arith),
+      f (at + 56) 7 (omega arith) (omega arith),
+      f (at + 56 + 8) 8 (omega arith) (omega arith),
+      f (at + 56 + 16) 9 (omega arith) (omega arith),
+      f (at + 80) 10 (omega arith) (omega arith),
+      f (at + 80 + 8) 11 (omega arith) (omega arith),
+      f (at + 80 + 16) 12 (omega arith) (omega arith),
+    )
+
+module _ {s : List ℕ} (at : ℕ) (e : JointEntry) (h : Stands s at (entry_bytes e)) where
+  three : Stands s at ((e.kind ∷ bytes16 e.parent) ++ bytes16 e.number)
+  unfolding entry_bytes
+  three = stands_left ((e.kind ∷ bytes16 e.parent) ++ bytes16 e.number) _ h
+
+  two : Stands s at (e.kind ∷ bytes16 e.parent)
+  two = stands_left (e.kind ∷ bytes16 e.parent) (bytes16 e.number) three
+
+  pub kind_stands : get_or s at 0 ≡ e.kind
+  kind_stands = stands_head two
+
+  parent_stands : e.parent < 65536 → be16 s (at + 1) ≡ e.parent
+  parent_stands l = omega (arith, be16_stands e.parent (stands_right (at + 1) (e.kind ∷ []) (bytes16 e.parent) two refl))
+
+  pub number_stands : e.number < 65536 → be16 s (at + 3) ≡ e.number
+  unfolding bytes16
+  number_stands l = omega (arith, be16_stands e.number (stands_right (at + 3) (e.kind ∷ bytes16 e.parent) (bytes16 e.number) three refl))
+
+  floats : Stands s (at + 5) (float_bytes (joint_numbers (joint_of e)))
+  unfolding entry_bytes bytes16
+  floats = stands_right (at + 5) ((e.kind ∷ bytes16 e.parent) ++ bytes16 e.number) _ h refl
+
+  pub entry_stands : Doubles (joint_numbers (joint_of e)) → e.parent < 65536 → e.number < 65536 → entry_in s at ≡ e
+  unfolding entry_in frame_in vector_in
+  entry_stands d p n =
+      let f : (q i : ℕ) → i < 10 → at + 5 + 8 * i ≡ q → f64_at s q ≡ get_or (joint_numbers (joint_of e)) i nan = λ q i k z. float_stands q (joint_numbers (joint_of e)) i d k floats z in
+      rw (
+        kind_stands,
+        parent_stands p,
+        number_stands n,
+        f (at + 5) 0 (omega arith) (omega arith),
+        f (at + 5 + 8) 1 (omega arith) (omega arith),
+        f (at + 5 + 16) 2 (omega arith) (omega arith),
+        f (at + 5 + 24) 3 (omega arith) (omega arith),
+        f (at + 5 + 32) 4 (omega arith) (omega arith),
+        f (at + 5 + 32 + 8) 5 (omega arith) (omega arith),
+        f (at + 5 + 32 + 16) 6 (omega arith) (omega arith),
+        f (at + 61) 7 (omega arith) (omega arith),
+        f (at + 61 + 8) 8 (omega arith) (omega arith),
+        f (at + 61 + 16) 9 (omega arith) (omega arith),
+      )
 
 pub base_stands : {s : List ℕ} (at : ℕ) (b : BaseState) → Doubles (base_numbers b) → Stands s at (float_bytes (base_numbers b)) → base_in s at ≡ b
 unfolding base_in frame_in twist_in vector_in

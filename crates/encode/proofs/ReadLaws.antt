@@ -12,7 +12,7 @@ use lib.Ieee.{Float, nan}
 use borrow.Author.Tests.{eq-eqb}
 use Rattle.spatial.specs.Listed.{list_of}
 use Rattle.spatial.proofs.BoolLaws.{upto}
-use Rattle.wire.specs.Big.{be32, f64_at, bytes32, float_bytes}
+use Rattle.wire.specs.Big.{be32, bytes32, float_bytes}
 use Rattle.wire.specs.Fill.{fill}
 use Rattle.wire.proofs.StandsLaws.{Stands, Doubles, stands_left, stands_right, be32_stands, float_stands}
 use Rattle.records.specs.Layout.{headed}
@@ -41,16 +41,19 @@ unfolding fill
 fill_same zero f g base h = refl
 fill_same (suc n) f g base h = rw (h n (omega arith), fill_same n f g base (λ i l. h i (omega arith)))
 
-listed : (n : ℕ) (xs : List Float) → n ≤ length xs → list_of n (λ i. get_or xs i nan) ≡ take n xs
+listed : {A : Type 0} (z : A) (n : ℕ) (xs : List A) → n ≤ length xs → list_of n (λ i. get_or xs i z) ≡ take n xs
 unfolding list_of
-listed zero xs h = refl
-listed (suc n) xs h = rw (listed n xs (omega arith)) (sym (take-suc xs n nan h))
+listed z zero xs h = refl
+listed z (suc n) xs h = rw (listed z n xs (omega arith)) (sym (take-suc xs n z h))
+
+-- a list whose every place is read
+pub list_read : {A : Type 0} {f : ℕ → A} (xs : List A) (z : A) → ((i : ℕ) → i < length xs → f i ≡ get_or xs i z) → list_of (length xs) f ≡ xs
+list_read {A} {f} xs z h = list_of_same (length xs) f (λ i. get_or xs i z) h ∙ listed z (length xs) xs (omega arith) ∙ take-length xs
 
 -- a list of doubles
 pub floats_read : {s : List ℕ} (at n : ℕ) (xs : List Float) → Doubles xs → n ≡ length xs → Stands s at (float_bytes xs) → floats_in s at n ≡ xs
 floats_read {s} at n xs d e h =
-    list_of_same n (λ i. f64_at s (at + 8 * i)) (λ i. get_or xs i nan) (λ i l. float_stands (at + 8 * i) xs i d (omega arith) h refl)
-    ∙ listed n xs (omega arith) ∙ ap (λ (k : ℕ). take k xs) e ∙ take-length xs
+    ap (λ (k : ℕ). floats_in s at k) e ∙ list_read xs nan (λ i l. float_stands (at + 8 * i) xs i d l h refl)
 
 -- "a 4-byte length of what follows, then version byte 1, then kind"
 pub headed_stands : {s : List ℕ} (at n kind : ℕ) → n < 4294967296 → Stands s at (bytes32 n) → get_or s (at + 4) 0 ≡ 1 → get_or s (at + 5) 0 ≡ kind → headed s at n kind ≡ true

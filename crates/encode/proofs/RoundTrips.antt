@@ -6,7 +6,6 @@ use mathlib.Core.List.{[], ◌∷◌, ◌++◌}
 use native.Mathlib.Omega.{arith}
 use lib.ListN.{length, length-append}
 use borrow.Author.Tests.{le-leb, eq-eqb}
-use Rattle.model.specs.Flat.{Sized, tables_of}
 use Rattle.model.specs.declared.Model.{Model}
 use Rattle.wire.specs.Big.{be16, bytes16, bytes32, float_bytes}
 use Rattle.wire.proofs.StandsLaws.{Stands, Doubles, stands_whole, stands_left, stands_right, stands_head, be16_stands}
@@ -20,11 +19,12 @@ use Rattle.records.specs.Places.{link_count, moving, call_place, load_count}
 use Rattle.encode.specs.Models.{model_bytes, writable}
 use Rattle.encode.specs.Calls.{Asked, call_bytes, call_writable}
 use Rattle.encode.specs.Kept.{kept_model, kept_call}
-use Rattle.encode.proofs.SizeLaws.{length_tables}
+use Rattle.encode.proofs.SizeLaws.{length_model}
 use Rattle.encode.proofs.CallSizes.{length_call}
 use Rattle.encode.proofs.WritableLaws.{writable_fit}
 use Rattle.encode.proofs.ReadLaws.{floats_read, headed_stands}
 use Rattle.encode.proofs.ModelTrip as model
+use Rattle.encode.proofs.ModelTrip.{ModelDoubles}
 use Rattle.encode.proofs.CallTrip as call
 use Rattle.encode.proofs.CallTrip.{CallDoubles}
 
@@ -61,11 +61,9 @@ module _ (a : Answer) (few : length a.figures ≤ 69) where
   answer_read d = rw (front.each 2 (omega arith), count_read, floats_read 9 (length a.figures) a.figures d refl figures)
 
 -- a model's record and the record of a call of it
-module _ (m : Model) (z : Sized (tables_of m)) (w : writable m ≡ true) (c : Asked) (v : call_writable c ≡ true) (same : c.entries ≡ m.moving) where
+module _ (m : Model) (w : writable m ≡ true) (c : Asked) (v : call_writable c ≡ true) (same : length c.positions ≡ m.moving) where
   model_length : length (model_bytes m) ≡ call_place m.count
-  model_length =
-      let f = writable_fit m w in
-      omega (arith, length_tables (tables_of m) m.count m.moving (omega (arith, z.links)) (omega (arith, z.joints)))
+  model_length = omega (arith, length_model m)
 
   model_stands : Stands (model_bytes m ++ call_bytes c) 0 (model_bytes m)
   model_stands = stands_left (model_bytes m) (call_bytes c) (stands_whole (model_bytes m ++ call_bytes c))
@@ -74,15 +72,15 @@ module _ (m : Model) (z : Sized (tables_of m)) (w : writable m ≡ true) (c : As
   call_stands = stands_right (call_place m.count) (model_bytes m) (call_bytes c) (stands_whole (model_bytes m ++ call_bytes c)) (omega (arith, model_length))
 
   links_read : link_count (model_bytes m ++ call_bytes c) ≡ m.count
-  links_read = model.count_read _ m z w model_stands
+  links_read = model.count_read _ m w model_stands
 
-  moving_read : moving (model_bytes m ++ call_bytes c) ≡ c.entries
-  moving_read = model.moving_read _ m z w model_stands ∙ sym same
+  moving_read : moving (model_bytes m ++ call_bytes c) ≡ length c.positions
+  moving_read = model.moving_read _ m w model_stands ∙ sym same
 
   loads_counted : load_count (model_bytes m ++ call_bytes c) (call_place m.count) ≡ length c.links
   loads_counted = call.count_read c v _ (call_place m.count) call_stands
 
-  long : length (model_bytes m ++ call_bytes c) ≡ call_place m.count + (4 + (160 + 33 * c.entries + 50 * length c.links))
+  long : length (model_bytes m ++ call_bytes c) ≡ call_place m.count + (4 + (160 + 33 * length c.positions + 50 * length c.links))
   long =
       length-append (model_bytes m) (call_bytes c) ∙ omega (arith, model_length, length_call c (call.fit c v))
 
@@ -97,23 +95,23 @@ module _ (m : Model) (z : Sized (tables_of m)) (w : writable m ≡ true) (c : As
         loads_counted,
         le-leb 1 m.count f.some,
         le-leb m.count 64 f.links,
-        le-leb c.entries 63 g.moving,
+        le-leb (length c.positions) 63 g.moving,
         le-leb (length c.links) 256 g.few,
         eq-eqb (length (model_bytes m ++ call_bytes c)) _ long,
-        model.model_is_laid _ m z w model_stands,
+        model.model_is_laid _ m w model_stands,
         call.call_is_laid c v _ (call_place m.count) call_stands,
       )
 
-  pub model_read : Doubles m.links → Doubles m.joints → model_in (model_bytes m ++ call_bytes c) ≡ kept_model m
-  model_read = model.model_read _ m z w model_stands
+  pub model_read : ModelDoubles m → model_in (model_bytes m ++ call_bytes c) ≡ kept_model m
+  model_read = model.model_read _ m w model_stands
 
-  pub call_read : Doubles m.links → Doubles m.joints → CallDoubles c → call_in (model_bytes m ++ call_bytes c) ≡ kept_call m c
+  pub call_read : ModelDoubles m → CallDoubles c → call_in (model_bytes m ++ call_bytes c) ≡ kept_call m c
   unfolding call_in
-  call_read dl dj d =
+  call_read t d =
       rw (links_read, moving_read, loads_counted, call.function_read c v _ (call_place m.count) call_stands)
-      (call.with_read c v _ (call_place m.count) call_stands m d (model_read dl dj) links_read c.function)
+      (call.with_read c v _ (call_place m.count) call_stands m d (model_read t) links_read c.function)
 
   -- "The program reads one model and one call": what it writes is the answer to that call
-  pub written_answered : Doubles m.links → Doubles m.joints → CallDoubles c → reply (model_bytes m ++ call_bytes c) ≡ answer_bytes (answer_to (kept_call m c))
+  pub written_answered : ModelDoubles m → CallDoubles c → reply (model_bytes m ++ call_bytes c) ≡ answer_bytes (answer_to (kept_call m c))
   unfolding reply
-  written_answered dl dj d = rw (records_laid, call_read dl dj d)
+  written_answered t d = rw (records_laid, call_read t d)

@@ -3,10 +3,11 @@ use Prim.Native.Nat.{ℕ, ◌-◌, ◌≤◌, ◌<◌}
 use mathlib.Core.Path.{◌≡◌}
 use mathlib.Core.Bool.{true, false, not, ◌&&◌, ◌||◌}
 use lib.Dec.{eqb, ltb, leb}
-use lib.ListN.{get_or}
 use borrow.Author.Tests.{ltb-true, leb-true}
 use Rattle.spatial.proofs.AllLaws.{all_at}
 use Rattle.spatial.proofs.BoolLaws.{and_left, and_right, and_both, and_false}
+use Rattle.model.specs.Tables.{entry_at}
+use Rattle.model.specs.declared.JointEntry.{JointEntry}
 use Rattle.model.specs.declared.Model.{Model}
 use Rattle.encode.specs.Models.{counts_writable, joint_writable, joints_writable, writable}
 
@@ -31,37 +32,39 @@ pub counts_refused : (m : Model) → counts_writable m.id m.count m.moving ≡ f
 unfolding writable
 counts_refused m h = rw h
 
-pub joints_refused : (m : Model) → joints_writable m.kinds m.parents m.numbers (m.count - 1) ≡ false → writable m ≡ false
+pub joints_refused : (m : Model) → joints_writable m ≡ false → writable m ≡ false
 unfolding writable
 joints_refused m h = and_false (counts_writable m.id m.count m.moving) _ h
 
-pub both_writable : (m : Model) → counts_writable m.id m.count m.moving ≡ true → joints_writable m.kinds m.parents m.numbers (m.count - 1) ≡ true
-    → writable m ≡ true
+pub both_writable : (m : Model) → counts_writable m.id m.count m.moving ≡ true → joints_writable m ≡ true → writable m ≡ true
 unfolding writable
-both_writable m h k = and_both (counts_writable m.id m.count m.moving) (joints_writable m.kinds m.parents m.numbers (m.count - 1)) h k
+both_writable m h k = and_both (counts_writable m.id m.count m.moving) (joints_writable m) h k
 
 pub writable_fit : (m : Model) → writable m ≡ true → Fit m.count m.moving
 unfolding writable
 writable_fit m h = counts_are_fit m.id m.count m.moving (and_left (counts_writable m.id m.count m.moving) _ h)
 
 -- a joint of a writable model
-pub record JointFit (kind parent number : ℕ) : Type 0 where
-  pub laid : leb kind 2 && (not (eqb kind 0) || eqb number 65535) ≡ true
-  pub parent_small : parent < 65536
-  pub number_small : number < 65536
+pub record JointFit (e : JointEntry) : Type 0 where
+  pub laid : leb e.kind 2 && (not (eqb e.kind 0) || eqb e.number 65535) ≡ true
+  pub parent_small : e.parent < 65536
+  pub number_small : e.number < 65536
 
-joint_fit : (kind parent number : ℕ) → joint_writable kind parent number ≡ true → JointFit kind parent number
+joint_fit : (e : JointEntry) → joint_writable e ≡ true → JointFit e
 unfolding joint_writable
-joint_fit k p n h =
-    let q = not (eqb k 0) || eqb n 65535 in
-    let r = and_right (leb k 2) (q && (ltb p 65536 && ltb n 65536)) h in
-    let t = and_right q (ltb p 65536 && ltb n 65536) r in
+joint_fit e h =
+    let k = leb e.kind 2 in
+    let q = not (eqb e.kind 0) || eqb e.number 65535 in
+    let p = ltb e.parent 65536 in
+    let n = ltb e.number 65536 in
+    let r = and_right k (q && (p && n)) h in
+    let t = and_right q (p && n) r in
     record {
-      laid = and_both (leb k 2) q (and_left (leb k 2) (q && (ltb p 65536 && ltb n 65536)) h) (and_left q (ltb p 65536 && ltb n 65536) r);
-      parent_small = ltb-true p 65536 (and_left (ltb p 65536) (ltb n 65536) t);
-      number_small = ltb-true n 65536 (and_right (ltb p 65536) (ltb n 65536) t);
+      laid = and_both k q (and_left k (q && (p && n)) h) (and_left q (p && n) r);
+      parent_small = ltb-true e.parent 65536 (and_left p n t);
+      number_small = ltb-true e.number 65536 (and_right p n t);
     }
 
-pub writable_joint : (m : Model) (j : ℕ) → writable m ≡ true → j < m.count - 1 → JointFit (get_or m.kinds j 0) (get_or m.parents j 0) (get_or m.numbers j 0)
+pub writable_joint : (m : Model) (j : ℕ) → writable m ≡ true → j < m.count - 1 → JointFit (entry_at m j)
 unfolding writable joints_writable
-writable_joint m j h l = joint_fit _ _ _ (all_at (m.count - 1) j _ (and_right (counts_writable m.id m.count m.moving) _ h) l)
+writable_joint m j h l = joint_fit _ (all_at (m.count - 1) j _ (and_right (counts_writable m.id m.count m.moving) _ h) l)

@@ -1,5 +1,5 @@
 -- 01, Byte records, kind 2: the record of a call.
-use Rattle.std.specs.Prelude.{ℕ, ◌*◌, Bool, ◌&&◌, List, [], ◌∷◌, ◌++◌, eqb, ltb, leb, length, get_or, take, drop, Float}
+use Rattle.std.specs.Prelude.{ℕ, ◌*◌, ◌≤◌, ◌≡◌, Bool, ◌&&◌, List, [], ◌∷◌, ◌++◌, eqb, ltb, leb, length, get_or, take, drop, Float}
 use Rattle.spatial.specs.All.{all}
 use Rattle.spatial.specs.Constants.{plus_zero}
 use Rattle.model.specs.Bases.{base_numbers}
@@ -14,6 +14,7 @@ use Rattle.outcome.specs.declared.Function.TheVariants.{InverseDynamics, Gravity
 use Rattle.wire.specs.Big.{bytes16, bytes32, float_bytes}
 use Rattle.records.specs.Places.{call_length}
 use Rattle.encode.specs.Joined.{joined}
+use Rattle.encode.specs.declared.CallArguments.{CallArguments}
 
 -- "function (1 inverse, 2 gravity, 3 velocity)"
 abbrev pub function_code : Function → ℕ
@@ -52,9 +53,9 @@ call_head function mode base m k =
     call_start (call_length m k) (function_code function) (mode_code mode) ++ float_bytes (base_numbers base) ++ bytes16 m ++ bytes16 k
 
 -- "m poses ..; m speeds; m accelerations; loads"
-unfoldable pub call_lists : List Pose → ℕ → List Float → List Float → List ℕ → List Float → List ℕ
-call_lists positions m speeds accelerations links numbers =
-    joined m (pose_bytes positions) ++ float_bytes speeds ++ float_bytes accelerations ++ joined (length links) (load_bytes links numbers)
+unfoldable pub call_lists : List Pose → List Float → List Float → List ℕ → List Float → List ℕ
+call_lists positions speeds accelerations links numbers =
+    joined (length positions) (pose_bytes positions) ++ float_bytes speeds ++ float_bytes accelerations ++ joined (length links) (load_bytes links numbers)
 
 -- what is asked for: the arguments of a call, six numbers a load
 pub record Asked : Type 0 where
@@ -62,30 +63,28 @@ pub record Asked : Type 0 where
   pub mode : RootMode
   pub base : BaseState
   pub positions : List Pose
-  pub entries : ℕ
   pub speeds : List Float
   pub accelerations : List Float
   pub links : List ℕ
   pub numbers : List Float
 
-abbrev pub asked : Function → RootMode → BaseState → List Pose → ℕ → List Float → List Float → List ℕ → List Float → Asked
-asked function mode base positions entries speeds accelerations links numbers =
+abbrev pub asked : CallArguments → Asked
+asked c =
     record {
-      function = function;
-      mode = mode;
-      base = base;
-      positions = positions;
-      entries = entries;
-      speeds = speeds;
-      accelerations = accelerations;
-      links = links;
-      numbers = numbers;
+      function = c.function;
+      mode = c.mode;
+      base = c.base;
+      positions = c.positions.now;
+      speeds = c.speeds.now;
+      accelerations = c.accelerations.now;
+      links = c.links.now;
+      numbers = c.numbers.now;
     }
 
 unfoldable pub call_bytes : Asked → List ℕ
 call_bytes c =
-    call_head c.function c.mode c.base c.entries (length c.links)
-    ++ call_lists c.positions c.entries c.speeds c.accelerations c.links c.numbers
+    call_head c.function c.mode c.base (length c.positions) (length c.links)
+    ++ call_lists c.positions c.speeds c.accelerations c.links c.numbers
 
 -- "A call's k above 256 is 9"; m speeds and accelerations, six numbers a load
 unfoldable pub counts_fit : ℕ → ℕ → ℕ → ℕ → ℕ → Bool
@@ -95,7 +94,20 @@ counts_fit m speeds accelerations k numbers = leb k 256 && (leb m 63 && (eqb spe
 unfoldable pub links_writable : List ℕ → Bool
 links_writable links = all (length links) (λ i. ltb (get_or links i 0) 65536)
 
+-- what such counts are: m, the speeds, the accelerations, the loads and their numbers
+pub record CallFit (m s a k x : ℕ) : Type 0 where
+  pub few : k ≤ 256
+  pub moving : m ≤ 63
+  pub speeds : s ≡ m
+  pub accelerations : a ≡ m
+  pub sixes : x ≡ 6 * k
+
+abbrev pub Counted : Asked → Type 0
+Counted c = CallFit (length c.positions) (length c.speeds) (length c.accelerations) (length c.links) (length c.numbers)
+
+abbrev pub call_counts_fit : Asked → Bool
+call_counts_fit c = counts_fit (length c.positions) (length c.speeds) (length c.accelerations) (length c.links) (length c.numbers)
+
 -- any other call has no record
 unfoldable pub call_writable : Asked → Bool
-call_writable c =
-    counts_fit c.entries (length c.speeds) (length c.accelerations) (length c.links) (length c.numbers) && links_writable c.links
+call_writable c = call_counts_fit c && links_writable c.links

@@ -1,13 +1,10 @@
 -- What records keep of a model and of a call: what is read back from them.
-use Rattle.std.specs.Prelude.{ℕ, ◌-◌, ◌*◌, List, [], length, get_or, replicate, Float}
-use Rattle.std.specs.Float.{nan}
-use Rattle.spatial.specs.Constants.{plus_zero}
+use Rattle.std.specs.Prelude.{ℕ, ◌-◌, List, [], length, get_or, replicate, Float}
 use Rattle.spatial.specs.Listed.{list_of}
 use Rattle.spatial.specs.Tables.{wrench_at}
-use Rattle.model.specs.Poses.{no_pose}
+use Rattle.model.specs.Tables.{link_at, entry_at}
 use Rattle.model.specs.declared.Model.{Model}
-use Rattle.model.specs.declared.Pose.{Pose}
-use Rattle.model.specs.declared.Pose.TheVariants.{Slide}
+use Rattle.build.specs.Build.{blank_link, blank_entry}
 use Rattle.loads.specs.Sums.{start_sums, prepared_sums}
 use Rattle.loads.specs.declared.Load.{Load}
 use Rattle.outcome.specs.Call.{Call, call_of}
@@ -23,16 +20,9 @@ kept_model m =
       id = 0;
       count = m.count;
       moving = m.moving;
-      kinds = fill (λ j. get_or m.kinds j 0) (replicate 63 0) (m.count - 1);
-      parents = fill (λ j. get_or m.parents j 0) (replicate 63 0) (m.count - 1);
-      numbers = fill (λ j. get_or m.numbers j 0) (replicate 63 0) (m.count - 1);
-      links = fill (λ i. get_or m.links i nan) (replicate 832 plus_zero) (13 * m.count);
-      joints = fill (λ i. get_or m.joints i nan) (replicate 630 plus_zero) (10 * (m.count - 1));
+      links = fill (link_at m) (replicate 64 blank_link) m.count;
+      joints = fill (entry_at m) (replicate 63 blank_entry) (m.count - 1);
     }
-
--- distances of +0 past the last entry
-unfoldable pub kept_positions : List Pose → ℕ → List Pose
-kept_positions ps m = fill (λ i. get_or ps i no_pose) (replicate 63 (Slide plus_zero)) m
 
 -- six numbers a load, torque before force
 unfoldable pub kept_loads : List ℕ → List Float → List Load
@@ -41,13 +31,13 @@ kept_loads links numbers = list_of (length links) (λ i. record { id = 0; link =
 -- "unused speeds, accelerations and loads are skipped unread"
 unfoldable pub kept_for : Function → Model → Asked → Call
 kept_for InverseDynamics m c =
-    call_of InverseDynamics c.mode (kept_model m) c.base (kept_positions c.positions c.entries) c.entries c.speeds c.accelerations
+    call_of InverseDynamics c.mode (kept_model m) c.base c.positions (length c.positions) c.speeds c.accelerations
     (prepared_sums 0 m.count (kept_loads c.links c.numbers))
 kept_for Gravity m c =
-    call_of Gravity c.mode (kept_model m) c.base (kept_positions c.positions c.entries) c.entries [] []
+    call_of Gravity c.mode (kept_model m) c.base c.positions (length c.positions) [] []
     (prepared_sums 0 m.count (kept_loads c.links c.numbers))
 kept_for VelocityProduct m c =
-    call_of VelocityProduct c.mode (kept_model m) c.base (kept_positions c.positions c.entries) c.entries c.speeds [] start_sums
+    call_of VelocityProduct c.mode (kept_model m) c.base c.positions (length c.positions) c.speeds [] start_sums
 
 abbrev pub kept_call : Model → Asked → Call
 kept_call m c = kept_for c.function m c

@@ -1,16 +1,16 @@
 // The record of a call.
-ghost use Rattle.std.specs.Prelude.{◌≡◌, ◌+◌, ◌*◌, ◌≤◌, true, length};
+ghost use Rattle.std.specs.Prelude.{◌≡◌, ◌+◌, ◌*◌, ◌≤◌, length};
 ghost use Rattle.records.specs.Reply.{sent};
 ghost use Rattle.wire.specs.Placed.{placed};
-ghost use Rattle.encode.specs.Calls.{call_lists, asked, call_bytes, counts_fit};
+ghost use Rattle.encode.specs.Calls.{call_lists, asked, call_bytes, counts_fit, Counted};
 ghost use Rattle.encode.specs.Written.{told, written_call};
 
+use crate::CallArguments;
 use crate::heads::put_head;
 use crate::lists::{links_writable, put_loads, put_poses};
-use model::{BaseState, Pose, RootMode};
-use outcome::Function;
 use wire::write::put_floats;
 
+#[tactic(auto, unfolding(crate::specs::Calls::counts_fit))]
 fn counts_fit(m: usize, speeds: usize, accelerations: usize, k: usize, numbers: usize) -> bool
     ensures { result ≡ counts_fit m speeds accelerations k numbers }
 {
@@ -20,87 +20,48 @@ fn counts_fit(m: usize, speeds: usize, accelerations: usize, k: usize, numbers: 
     (m <= 63) & ((speeds == m) & ((accelerations == m) & (numbers == 6 * k)))
 }
 
-fn put_lists<'a>(
-    out: &mut [u8],
-    positions: [Pose; 63],
-    m: usize,
-    speeds: &'a [f64],
-    accelerations: &'a [f64],
-    links: &'a [usize],
-    numbers: &'a [f64],
-)
-    requires { (counts_fit m (length speeds.now) (length accelerations.now) (length links.now) (length numbers.now) ≡ true) × (164 + 33 * m + 50 * length links.now ≤ length out.old) }
-    ensures { out.new ≡ placed out.old 164 (call_lists positions m speeds.now accelerations.now links.now numbers.now) }
+fn put_lists(out: &mut [u8], call: &CallArguments)
+    requires { Counted (asked call.now) × (164 + 33 * length call.now.positions.now + 50 * length call.now.links.now ≤ length out.old) }
+    ensures { out.new ≡ placed out.old 164 (call_lists call.now.positions.now call.now.speeds.now call.now.accelerations.now call.now.links.now call.now.numbers.now) }
 {
-    put_poses(out, 164, positions, m);
-    put_floats(out, 164 + 17 * m, speeds);
-    put_floats(out, 164 + 25 * m, accelerations);
-    put_loads(out, 164 + 33 * m, links, numbers);
+    let m = call.positions.len();
+    put_poses(out, 164, call.positions);
+    put_floats(out, 164 + 17 * m, call.speeds);
+    put_floats(out, 164 + 25 * m, call.accelerations);
+    put_loads(out, 164 + 33 * m, call.links, call.numbers);
 }
 
 // The call's record where it fits.
-fn put_call<'a>(
-    out: &mut [u8],
-    function: Function,
-    mode: RootMode,
-    base: BaseState,
-    positions: [Pose; 63],
-    m: usize,
-    speeds: &'a [f64],
-    accelerations: &'a [f64],
-    links: &'a [usize],
-    numbers: &'a [f64],
-) -> usize
-    requires { counts_fit m (length speeds.now) (length accelerations.now) (length links.now) (length numbers.now) ≡ true }
-    ensures { told result out.new ≡ sent (call_bytes (asked function mode base positions m speeds.now accelerations.now links.now numbers.now)) out.old }
+fn put_call(out: &mut [u8], call: &CallArguments) -> usize
+    requires { Counted (asked call.now) }
+    ensures { told result out.new ≡ sent (call_bytes (asked call.now)) out.old }
 {
-    let k = links.len();
+    let m = call.positions.len();
+    let k = call.links.len();
     let size = 164 + 33 * m + 50 * k;
     if out.len() < size {
         return 0;
     }
-    put_head(out, function, mode, base, m, k);
-    put_lists(out, positions, m, speeds, accelerations, links, numbers);
+    put_head(out, call.function, call.mode, call.base, m, k);
+    put_lists(out, call);
     size
 }
 
-// How many bytes were written: the whole record, or none where the call has no record or the table is too short.
-pub fn write_call<'a>(
-    function: Function,
-    mode: RootMode,
-    base: BaseState,
-    positions: [Pose; 63],
-    entries: usize,
-    speeds: &'a [f64],
-    accelerations: &'a [f64],
-    links: &'a [usize],
-    numbers: &'a [f64],
-    out: &mut [u8],
-) -> usize
-    ensures { told result out.new ≡ written_call (asked function mode base positions entries speeds.now accelerations.now links.now numbers.now) out.old }
+/// How many bytes were written: the whole record, or none where the call has no record or the table is too short.
+pub fn write_call(call: &CallArguments, out: &mut [u8]) -> usize
+    ensures { told result out.new ≡ written_call (asked call.now) out.old }
 {
     if !counts_fit(
-        entries,
-        speeds.len(),
-        accelerations.len(),
-        links.len(),
-        numbers.len(),
+        call.positions.len(),
+        call.speeds.len(),
+        call.accelerations.len(),
+        call.links.len(),
+        call.numbers.len(),
     ) {
         return 0;
     }
-    if !links_writable(links) {
+    if !links_writable(call.links) {
         return 0;
     }
-    put_call(
-        out,
-        function,
-        mode,
-        base,
-        positions,
-        entries,
-        speeds,
-        accelerations,
-        links,
-        numbers,
-    )
+    put_call(out, call)
 }

@@ -27,15 +27,13 @@ fn put_pose(out: &mut [u8], at: usize, pose: Pose)
     }
 }
 
-pub(crate) fn put_poses(out: &mut [u8], at: usize, positions: [Pose; 63], m: usize)
-    requires { (m ≤ 63) × (at + 17 * m ≤ length out.old) }
-    ensures { out.new ≡ placed out.old at (joined m (pose_bytes positions)) }
+#[tactic(auto, using(crate::proofs::JoinedLaws::joined_start))]
+pub(crate) fn put_poses(out: &mut [u8], at: usize, positions: &[Pose])
+    requires { (length positions.now ≤ 63) × (at + 17 * length positions.now ≤ length out.old) }
+    ensures { out.new ≡ placed out.old at (joined (length positions.now) (pose_bytes positions.now)) }
 {
-    let mut i = 0;
-    while i < m {
-        let pose = positions[i];
-        put_pose(out, at + 17 * i, pose);
-        i += 1;
+    for (i, pose) in positions.iter().enumerate() {
+        put_pose(out, at + 17 * i, *pose);
     }
 }
 
@@ -45,30 +43,27 @@ fn put_load(out: &mut [u8], at: usize, link: usize, numbers: &[f64], from: usize
     ensures { out.new ≡ placed out.old at (bytes16 link ++ float_bytes (take 6 (drop from numbers.now))) }
 {
     put_u16(out, at, link);
-    let end = from + 6;
-    put_floats(out, at + 2, &numbers[from..end]);
+    put_floats(out, at + 2, &numbers[from..from + 6]);
 }
 
-pub(crate) fn put_loads<'a>(out: &mut [u8], at: usize, links: &'a [usize], numbers: &'a [f64])
+#[tactic(auto, using(crate::proofs::JoinedLaws::joined_start))]
+pub(crate) fn put_loads(out: &mut [u8], at: usize, links: &[usize], numbers: &[f64])
     requires { (length links.now ≤ 256) × (at + 50 * length links.now ≤ length out.old) × (length numbers.now ≡ 6 * length links.now) }
     ensures { out.new ≡ placed out.old at (joined (length links.now) (load_bytes links.now numbers.now)) }
 {
-    let mut i = 0;
-    while i < links.len() {
-        put_load(out, at + 50 * i, links[i], numbers, 6 * i);
-        i += 1;
+    for (i, link) in links.iter().enumerate() {
+        put_load(out, at + 50 * i, *link, numbers, 6 * i);
     }
 }
 
 // Link numbers of two bytes.
+#[tactic(auto, unfolding(spatial::specs::All::all, crate::specs::Calls::links_writable))]
 pub(crate) fn links_writable(links: &[usize]) -> bool
     ensures { result ≡ links_writable links.now }
 {
     let mut good = true;
-    let mut i = 0;
-    while i < links.len() {
-        good = good & (links[i] < 65536);
-        i += 1;
+    for link in links {
+        good = good & (*link < 65536);
     }
     good
 }

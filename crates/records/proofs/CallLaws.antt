@@ -11,11 +11,10 @@ use Rattle.outcome.specs.Outcome.{outcome}
 use Rattle.outcome.specs.Refusal.{output_length}
 use Rattle.outcome.specs.declared.Function.{Function}
 use Rattle.outcome.specs.declared.Function.TheVariants.{InverseDynamics, Gravity, VelocityProduct}
+use Rattle.records.specs.declared.shape.CallShape.{CallShape}
 use Rattle.records.specs.Places.{link_count, moving, call_place, load_count}
-use Rattle.records.specs.Layout.{LaidBytes}
 use Rattle.records.specs.Models.{model_in}
 use Rattle.records.specs.Calls.{mode_of, function_of, call_with, call_in}
-use Rattle.records.specs.Reading.{Readable}
 use Rattle.records.specs.Reply.{answer_from, answer_to}
 
 -- ---- zeros lent for the figures
@@ -40,25 +39,10 @@ to_zeros s VelocityProduct c m k n xs e d q = rw (q, d, e) refl
 
 -- ---- places and counts as they are read
 
-pub readable : (s : List ℕ) (n m c k : ℕ) → n ≡ link_count s → m ≡ moving s → c ≡ call_place n → k ≡ load_count s c → LaidBytes s → Readable s c m k
-readable s n m c k e d g f h =
-    let q : load_count s (call_place (link_count s)) ≡ k = cc in
-    let size = h.size in
-    let loads = h.loads in
-    record {
-      some = h.some;
-      few = h.few;
-      model = omega arith;
-      place = omega (arith, h.few);
-      moves = omega (arith, h.moves);
-      loads = omega arith;
-      size = omega arith;
-    }
-
-pub call_is : (s : List ℕ) (n m c k : ℕ) → n ≡ link_count s → m ≡ moving s → c ≡ call_place n → k ≡ load_count s c
-    → call_with s (function_of (get_or s (c + 6) 0)) c m k ≡ call_in s
+pub call_is : (s : List ℕ) (call : CallShape) → call ≡ record { place = call_place (link_count s); moving = moving s; loads = load_count s (call_place (link_count s)) }
+    → call_with s (function_of (get_or s (call.place + 6) 0)) call.place call.moving call.loads ≡ call_in s
 unfolding call_in
-call_is s n m c k e d g f = rw (f, g, d, e) refl
+call_is s call e = rw e refl
 
 pub place : (n : ℕ) → 10 + 104 * n + 85 * (n - 1) ≡ call_place n
 place n = omega arith

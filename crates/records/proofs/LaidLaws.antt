@@ -1,18 +1,16 @@
 -- A layout is kept just when all that `Laid` names holds.
 use Prim.Native.Nat.{ℕ, ◌+◌}
-use mathlib.Core.Path.{◌≡◌, ap, sym, ◌∙◌}
-use mathlib.Core.Bool.{true, ◌&&◌}
+use Rattle.std.proofs.Common.{Ok}
+use mathlib.Core.Path.{◌≡◌, sym}
+use mathlib.Core.Bool.{true, false, ◌&&◌}
 use mathlib.Core.List.{List}
-use native.Mathlib.Omega.{arith}
 use mathlib.Core.Logic.{⊎_elim}
 use lib.Dec.{eqb, leb}
 use lib.ListN.{length}
 use borrow.Author.Tests.{leb-true, eqb-true, le-leb, eq-eqb}
 use Rattle.spatial.proofs.BoolLaws.{and_left, and_right, and_both, by_bool}
-use Rattle.records.specs.declared.Layout.{Layout}
-use Rattle.records.specs.declared.Layout.TheVariants.{Kept, Broken}
 use Rattle.records.specs.Places.{link_count, moving, call_place, call_length, load_count}
-use Rattle.records.specs.Layout.{counted, model_laid, call_laid, laid, layout_of, layout_number, LaidBytes}
+use Rattle.records.specs.Layout.{counted, model_laid, call_laid, laid, layout_checked, LaidBytes}
 
 pub laid_says : (s : List ℕ) → laid s ≡ true → LaidBytes s
 unfolding laid counted
@@ -45,14 +43,8 @@ says_laid s h =
     and_both _ _ (and_both _ _ (le-leb _ _ h.some) (and_both _ _ (le-leb _ _ h.few) (and_both _ _ (le-leb _ _ h.moves) (le-leb _ _ h.loads))))
     (and_both _ _ (eq-eqb _ _ h.size) (and_both _ _ h.model h.call))
 
-differ : Kept ≡ Broken → ⊥
-differ e = let z : ◌≡◌ {A = ℕ} 0 9 = ap layout_number e in omega arith
+pub unlaid : (s : List ℕ) → (LaidBytes s → ⊥) → false ≡ laid s
+unlaid s h = ⊎_elim (λ e. absurd (h (laid_says s e))) sym (by_bool (laid s))
 
-pub broken : (s : List ℕ) → (LaidBytes s → ⊥) → Broken ≡ layout_of (laid s)
-broken s h = ⊎_elim (λ e. absurd (h (laid_says s e))) (λ e. ap layout_of (sym e)) (by_bool (laid s))
-
-pub kept : (s : List ℕ) → LaidBytes s → Kept ≡ layout_of (laid s)
-kept s h = ap layout_of (sym (says_laid s h))
-
-pub told_laid : (s : List ℕ) (l : Layout) → l ≡ layout_of (laid s) → l ≡ Kept → LaidBytes s
-told_laid s l e d = ⊎_elim (λ h. laid_says s h) (λ h. absurd (differ (sym d ∙ e ∙ ap layout_of h))) (by_bool (laid s))
+pub told_laid : (s : List ℕ) (u : Unit) → layout_checked s ≡ Ok u → LaidBytes s
+told_laid s u h = ⊎_elim (laid_says s) (λ e. let z = rw e at h in cc) (by_bool (laid s))

@@ -15,17 +15,17 @@ use Rattle.spatial.specs.Rotations.{inverted, multiplied, rotated, matrix_of, tr
 use Rattle.spatial.specs.Wrenches.{wrench_sum, wrench_to_parent}
 use Rattle.tree.specs.Tree.{climb, value_at, total, total_of, root_sum}
 use Rattle.model.specs.Bases.{good_base}
-use Rattle.build.specs.Build.{pasted, blank_model, with_link, with_joint}
-use Rattle.model.specs.Flat.{vector_at, frame_at, link_at, kind_of}
+use Rattle.build.specs.Build.{blank_model, with_link, with_joint}
+use Rattle.model.specs.Tables.{kind_of}
 use Rattle.model.specs.Good.{counts_fit, good_model}
 use Rattle.model.specs.Joints.{axis_fits, fits, good_joint}
 use Rattle.model.specs.Links.{weighs, good_link}
 use Rattle.model.specs.Lists.{list_checked}
 use Rattle.model.specs.Numbers.{taken, numbered_at, numbered, holder_of}
 use Rattle.model.specs.Poses.{pose_checked, first, kind_of_number, positions_checked}
-use Rattle.loads.specs.Checks.{link_id, finiteness, amount}
+use Rattle.loads.specs.Checks.{link_checked, wrench_checked, sum_checked, amount_checked}
 use Rattle.loads.specs.Sums.{start_sums, sum_step, sum_from, load_sums, prepared_sums}
-use Rattle.dynamics.specs.Flat.{value_in}
+use Rattle.dynamics.specs.Runs.{value_in}
 use Rattle.dynamics.specs.Frames.{half_turn, joint_frame}
 use Rattle.dynamics.specs.Motions.{root_motion, acceleration_at, carried, turning, sliding, driven, moved, inertial_wrench}
 use Rattle.dynamics.specs.Weights.{gravity_wrench}
@@ -40,8 +40,9 @@ use Rattle.wire.specs.Big.{be16, be32, be64, f64_at, bytes16, bytes32, bytes64, 
 use Rattle.wire.specs.Fill.{fill}
 use Rattle.dynamics.specs.Weights as Weights
 use Rattle.records.specs.Layout.{headed, joint_laid, pose_laid, counted, model_laid, call_laid, laid}
-use Rattle.records.specs.Models.{link_float, joint_float, model_in}
-use Rattle.records.specs.Calls.{function_of, mode_of, vector_in, twist_in, frame_in, base_in, pose_in, positions_in, load_in, call_with, call_in}
+use Rattle.records.specs.Parts.{vector_in, twist_in, frame_in}
+use Rattle.records.specs.Models.{link_in, entry_in, model_in}
+use Rattle.records.specs.Calls.{function_of, mode_of, base_in, pose_in, load_in, call_with, call_in}
 use Rattle.records.specs.Answers.{head_bytes, answer_bytes}
 use Rattle.records.specs.Reply.{answer_to, reply}
 
@@ -75,7 +76,7 @@ pub record Table : Type 0 where
   pub w9 : reply [] ≡ 0 ∷ 0 ∷ 0 ∷ 5 ∷ 1 ∷ 3 ∷ 9 ∷ 0 ∷ 0 ∷ []
 
 pub worked_bytes : Table
-unfolding reply answer_to answer_bytes head_bytes laid headed joint_laid pose_laid counted model_laid call_laid model_in link_float joint_float call_in call_with function_of mode_of vector_in twist_in frame_in base_in pose_in positions_in load_in fill be16 be32 be64 f64_at bytes16 bytes32 bytes64 float_bytes of_bits to_bits outcome refusal start_checked figures list_of good_base good_model counts_fit numbered numbered_at taken holder_of good_joint fits axis_fits good_link weighs positions_checked pose_checked first kind_of_number list_checked all all_finite is_finite unit_pair unit_quaternion unit_vector is_unit vector_sum scaled crossed dotted inverted multiplied rotated matrix_of transformed wrench_sum wrench_to_parent standard_gravity zero_vector zero_twist zero_wrench le add sub mul neg climb value_at total total_of root_sum link_at frame_at vector_at kind_of pasted blank_model with_link with_joint link_id finiteness amount start_sums sum_step sum_from load_sums prepared_sums value_in half_turn joint_frame root_motion acceleration_at carried turning sliding driven moved inertial_wrench Weights.turned gravity_wrench frame_of figure figure_of root_of
+unfolding reply answer_to answer_bytes head_bytes laid headed joint_laid pose_laid counted model_laid call_laid model_in link_in entry_in call_in call_with function_of mode_of vector_in twist_in frame_in base_in pose_in load_in fill be16 be32 be64 f64_at bytes16 bytes32 bytes64 float_bytes of_bits to_bits outcome refusal start_checked figures list_of good_base good_model counts_fit numbered numbered_at taken holder_of good_joint fits axis_fits good_link weighs positions_checked pose_checked first kind_of_number list_checked all all_finite is_finite unit_pair unit_quaternion unit_vector is_unit vector_sum scaled crossed dotted inverted multiplied rotated matrix_of transformed wrench_sum wrench_to_parent standard_gravity zero_vector zero_twist zero_wrench le add sub mul neg climb value_at total total_of root_sum kind_of blank_model with_link with_joint link_checked wrench_checked sum_checked amount_checked start_sums sum_step sum_from load_sums prepared_sums value_in half_turn joint_frame root_motion acceleration_at carried turning sliding driven moved inertial_wrench Weights.turned gravity_wrench frame_of figure figure_of root_of
 worked_bytes = record { w1 = refl; w8 = refl; w9 = refl }
 
 -- W1 to W9 together

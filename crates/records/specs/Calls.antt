@@ -2,9 +2,6 @@
 use Rattle.std.specs.Prelude.{ℕ, ◌+◌, ◌*◌, cond, List, [], eqb, get_or, replicate, Float}
 use Rattle.spatial.specs.Constants.{plus_zero}
 use Rattle.spatial.specs.Listed.{list_of}
-use Rattle.spatial.specs.declared.Vector3.{Vector3}
-use Rattle.spatial.specs.declared.Frame.{Frame}
-use Rattle.spatial.specs.declared.Twist.{Twist}
 use Rattle.model.specs.declared.BaseState.{BaseState}
 use Rattle.model.specs.declared.Pose.{Pose}
 use Rattle.model.specs.declared.Pose.TheVariants.{Half, Slide}
@@ -18,6 +15,7 @@ use Rattle.outcome.specs.declared.Function.TheVariants.{InverseDynamics, Gravity
 use Rattle.wire.specs.Big.{be16, f64_at}
 use Rattle.wire.specs.Fill.{fill}
 use Rattle.records.specs.Places.{link_count, moving, call_place, base_place, load_count, pose_place, speeds_place, accelerations_place, load_place}
+use Rattle.records.specs.Parts.{vector_in, twist_in, frame_in}
 use Rattle.records.specs.Models.{model_in}
 
 -- "function (1 inverse, 2 gravity, 3 velocity)"
@@ -28,21 +26,6 @@ function_of code = cond (eqb code 1) InverseDynamics (cond (eqb code 2) Gravity 
 unfoldable pub mode_of : ℕ → RootMode
 mode_of code = cond (eqb code 0) Fixed Floating
 
-unfoldable pub vector_in : List ℕ → ℕ → Vector3
-vector_in s at = record { x = f64_at s at; y = f64_at s (at + 8); z = f64_at s (at + 16) }
-
--- angular, then linear
-unfoldable pub twist_in : List ℕ → ℕ → Twist
-twist_in s at = record { angular = vector_in s at; linear = vector_in s (at + 24) }
-
--- rotation (w, i, j, k), then translation
-unfoldable pub frame_in : List ℕ → ℕ → Frame
-frame_in s at =
-    record {
-      rotation = record { w = f64_at s at; i = f64_at s (at + 8); j = f64_at s (at + 16); k = f64_at s (at + 24) };
-      translation = vector_in s (at + 32);
-    }
-
 -- "19 base floats": rotation, translation, velocity, acceleration
 unfoldable pub base_in : List ℕ → ℕ → BaseState
 base_in s at = record { frame = frame_in s at; velocity = twist_in s (at + 56); acceleration = twist_in s (at + 104) }
@@ -50,6 +33,10 @@ base_in s at = record { frame = frame_in s at; velocity = twist_in s (at + 56); 
 -- "tag 1 pair, 2 distance; two floats"
 unfoldable pub pose_in : List ℕ → ℕ → Pose
 pose_in s at = cond (eqb (get_or s at 0) 1) (Half (f64_at s (at + 1)) (f64_at s (at + 9))) (Slide (f64_at s (at + 1)))
+
+-- the m entries
+abbrev pub entries_in : List ℕ → ℕ → ℕ → List Pose
+entries_in s c m = list_of m (λ i. pose_in s (pose_place c i))
 
 -- places past the last entry hold distances of +0
 unfoldable pub positions_in : List ℕ → ℕ → ℕ → List Pose
@@ -69,13 +56,13 @@ loads_in s c m k = list_of k (λ i. load_in s (load_place c m i))
 -- "unused speeds, accelerations and loads are skipped unread"
 unfoldable pub call_with : List ℕ → Function → ℕ → ℕ → ℕ → Call
 call_with s InverseDynamics c m k =
-    call_of InverseDynamics (mode_of (get_or s (c + 7) 0)) (model_in s) (base_in s (base_place c)) (positions_in s c m) m
+    call_of InverseDynamics (mode_of (get_or s (c + 7) 0)) (model_in s) (base_in s (base_place c)) (entries_in s c m) m
     (floats_in s (speeds_place c m) m) (floats_in s (accelerations_place c m) m) (prepared_sums 0 (link_count s) (loads_in s c m k))
 call_with s Gravity c m k =
-    call_of Gravity (mode_of (get_or s (c + 7) 0)) (model_in s) (base_in s (base_place c)) (positions_in s c m) m [] []
+    call_of Gravity (mode_of (get_or s (c + 7) 0)) (model_in s) (base_in s (base_place c)) (entries_in s c m) m [] []
     (prepared_sums 0 (link_count s) (loads_in s c m k))
 call_with s VelocityProduct c m k =
-    call_of VelocityProduct (mode_of (get_or s (c + 7) 0)) (model_in s) (base_in s (base_place c)) (positions_in s c m) m
+    call_of VelocityProduct (mode_of (get_or s (c + 7) 0)) (model_in s) (base_in s (base_place c)) (entries_in s c m) m
     (floats_in s (speeds_place c m) m) [] start_sums
 
 -- the call after the model

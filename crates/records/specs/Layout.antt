@@ -1,9 +1,10 @@
 -- 01, refusal 9: "a byte record breaks its layout".
-use Rattle.std.specs.Prelude.{ℕ, ◌+◌, ◌-◌, ◌≤◌, ◌≡◌, Bool, true, false, not, ◌&&◌, ◌||◌, List, eqb, leb, length, get_or}
+use Rattle.std.specs.Prelude.{ℕ, ◌+◌, ◌-◌, ◌≤◌, ◌≡◌, Bool, true, not, ◌&&◌, ◌||◌, List, Result, eqb, leb, length, get_or}
 use Rattle.spatial.specs.All.{all}
 use Rattle.wire.specs.Big.{be16, be32, be64}
-use Rattle.records.specs.declared.Layout.{Layout}
-use Rattle.records.specs.declared.Layout.TheVariants.{Kept, Broken}
+use Rattle.refusal.specs.declared.Refusal.{Refusal}
+use Rattle.refusal.specs.declared.Refusal.TheVariants.{InvalidRecord}
+use Rattle.refusal.specs.Numbers.{unless}
 use Rattle.records.specs.Places.{model_length, call_length, link_count, moving, joint_place, call_place, load_count, pose_place}
 
 -- "first a 4-byte length of what follows, then version byte 1, then kind"
@@ -58,11 +59,6 @@ LaidBytes s = Laid s (link_count s) (moving s) (load_count s (call_place (link_c
 
 -- ---- the check's answer
 
-abbrev pub layout_of : Bool → Layout
-layout_of true = Kept
-layout_of false = Broken
-
 -- "9: a byte record breaks its layout"
-abbrev pub layout_number : Layout → ℕ
-layout_number Kept = 0
-layout_number Broken = 9
+abbrev pub layout_checked : List ℕ → Result Unit Refusal
+layout_checked s = unless (laid s) InvalidRecord

@@ -1,5 +1,6 @@
 pub mod Places
 pub mod Layout
+pub mod Parts
 pub mod Models
 pub mod Calls
 pub mod Reading

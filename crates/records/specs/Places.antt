@@ -18,8 +18,8 @@ abbrev pub moving : List ℕ → ℕ
 moving s = be16 s 8
 
 -- "all links, 13 floats each .. then all joints"
-abbrev pub links_from : ℕ
-links_from = 10
+abbrev pub link_place : ℕ → ℕ
+link_place l = 10 + 104 * l
 
 abbrev pub joint_place : ℕ → ℕ → ℕ
 joint_place n j = 10 + 104 * n + 85 * j

@@ -1,75 +1,88 @@
 // The call of two records, asked of the library.
 ghost use Rattle.std.specs.Prelude.{◌≡◌, ◌+◌, get_or};
+ghost use Rattle.refusal.specs.Numbers.{number};
 ghost use Rattle.outcome.specs.Outcome.{outcome, told};
-ghost use Rattle.outcome.specs.declared.Function.TheVariants.{InverseDynamics, Gravity, VelocityProduct};
 ghost use Rattle.records.specs.Calls.{function_of, call_with};
 ghost use Rattle.records.specs.Reading.{Readable};
 
-use crate::calls::{base_in, floats_in, mode_of, positions_in, sums_in};
+use crate::calls::{base_in, floats_in, function_of, mode_of, positions_in, sums_in};
 use crate::models::model_in;
-use robot::gravity::gravity_core;
-use robot::inverse::inverse_dynamics_core;
+use crate::shape::CallShape;
+use outcome::gravity::gravity_lent;
+use outcome::inverse::inverse_dynamics_lent;
+use outcome::scratch::{DynamicsScratch, GravityScratch};
+use outcome::{Function, JointStates};
+use refusal::Refusal;
 use robot::velocity::velocity_product_forces;
-use wire::read::size_at;
 
-fn ask_inverse(s: &[u8], c: usize, m: usize, k: usize, output: &mut [f64]) -> u8
-    requires { Readable s.now c m k }
-    ensures { told result output.new ≡ outcome (call_with s.now InverseDynamics c m k) output.old }
+fn ask_inverse(s: &[u8], call: CallShape, output: &mut [f64]) -> Result<(), Refusal>
+    requires { Readable s.now call.place call.moving call.loads }
+    ensures { told (number result) output.new ≡ outcome (call_with s.now Function.InverseDynamics call.place call.moving call.loads) output.old }
 {
     let model = model_in(s);
-    let base = base_in(s, c + 8);
-    let positions = positions_in(s, c, m);
-    let speeds = floats_in(s, c + 164 + 17 * m, m);
-    let accelerations = floats_in(s, c + 164 + 25 * m, m);
-    let sums = sums_in(s, c, m, k, model.count);
-    let mode = mode_of(s[c + 7]);
-    inverse_dynamics_core(
+    let base = base_in(s, call.place + 8);
+    let positions = positions_in(s, call.place, call.moving);
+    let speeds = floats_in(s, call.place + 164 + 17 * call.moving, call.moving);
+    let accelerations = floats_in(s, call.place + 164 + 25 * call.moving, call.moving);
+    let joints = JointStates {
+        positions: &positions[..call.moving],
+        speeds: &speeds[..call.moving],
+        accelerations: &accelerations[..call.moving],
+    };
+    let mut scratch = DynamicsScratch::new();
+    let loaded = sums_in(s, call, model.count, &mut scratch.sums);
+    let mode = mode_of(s[call.place + 7]);
+    inverse_dynamics_lent(mode, &model, &base, joints, loaded, &mut scratch, output)
+}
+
+fn ask_gravity(s: &[u8], call: CallShape, output: &mut [f64]) -> Result<(), Refusal>
+    requires { Readable s.now call.place call.moving call.loads }
+    ensures { told (number result) output.new ≡ outcome (call_with s.now Function.Gravity call.place call.moving call.loads) output.old }
+{
+    let model = model_in(s);
+    let base = base_in(s, call.place + 8);
+    let positions = positions_in(s, call.place, call.moving);
+    let mut scratch = GravityScratch::new();
+    let loaded = sums_in(s, call, model.count, &mut scratch.sums);
+    let mode = mode_of(s[call.place + 7]);
+    gravity_lent(
         mode,
-        model,
-        base,
-        positions,
-        m,
-        &speeds[..m],
-        &accelerations[..m],
-        sums,
+        &model,
+        &base,
+        &positions[..call.moving],
+        loaded,
+        &mut scratch,
         output,
     )
 }
 
-fn ask_gravity(s: &[u8], c: usize, m: usize, k: usize, output: &mut [f64]) -> u8
-    requires { Readable s.now c m k }
-    ensures { told result output.new ≡ outcome (call_with s.now Gravity c m k) output.old }
+fn ask_velocity(s: &[u8], call: CallShape, output: &mut [f64]) -> Result<(), Refusal>
+    requires { Readable s.now call.place call.moving call.loads }
+    ensures { told (number result) output.new ≡ outcome (call_with s.now Function.VelocityProduct call.place call.moving call.loads) output.old }
 {
     let model = model_in(s);
-    let base = base_in(s, c + 8);
-    let positions = positions_in(s, c, m);
-    let sums = sums_in(s, c, m, k, model.count);
-    let mode = mode_of(s[c + 7]);
-    gravity_core(mode, model, base, positions, m, sums, output)
+    let base = base_in(s, call.place + 8);
+    let positions = positions_in(s, call.place, call.moving);
+    let speeds = floats_in(s, call.place + 164 + 17 * call.moving, call.moving);
+    let mode = mode_of(s[call.place + 7]);
+    velocity_product_forces(
+        mode,
+        &model,
+        &base,
+        &positions[..call.moving],
+        &speeds[..call.moving],
+        output,
+    )
 }
 
-fn ask_velocity(s: &[u8], c: usize, m: usize, k: usize, output: &mut [f64]) -> u8
-    requires { Readable s.now c m k }
-    ensures { told result output.new ≡ outcome (call_with s.now VelocityProduct c m k) output.old }
+// By its function.
+pub(crate) fn ask(s: &[u8], call: CallShape, output: &mut [f64]) -> Result<(), Refusal>
+    requires { Readable s.now call.place call.moving call.loads }
+    ensures { told (number result) output.new ≡ outcome (call_with s.now (function_of (get_or s.now (call.place + 6) 0)) call.place call.moving call.loads) output.old }
 {
-    let model = model_in(s);
-    let base = base_in(s, c + 8);
-    let positions = positions_in(s, c, m);
-    let speeds = floats_in(s, c + 164 + 17 * m, m);
-    let mode = mode_of(s[c + 7]);
-    velocity_product_forces(mode, model, base, positions, m, &speeds[..m], output)
-}
-
-pub(crate) fn ask(s: &[u8], c: usize, m: usize, k: usize, output: &mut [f64]) -> u8
-    requires { Readable s.now c m k }
-    ensures { told result output.new ≡ outcome (call_with s.now (function_of (get_or s.now (c + 6) 0)) c m k) output.old }
-{
-    let function = s[c + 6];
-    if function == 1 {
-        return ask_inverse(s, c, m, k, output);
+    match function_of(s[call.place + 6]) {
+        Function::InverseDynamics => ask_inverse(s, call, output),
+        Function::Gravity => ask_gravity(s, call, output),
+        Function::VelocityProduct => ask_velocity(s, call, output),
     }
-    if function == 2 {
-        return ask_gravity(s, c, m, k, output);
-    }
-    ask_velocity(s, c, m, k, output)
 }

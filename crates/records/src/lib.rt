@@ -7,10 +7,4 @@ pub mod ask;
 pub mod calls;
 pub mod laid;
 pub mod models;
-
-// Whether a byte record keeps its layout.
-#[derive(Clone, Copy)]
-pub enum Layout {
-    Kept,
-    Broken,
-}
+pub mod shape;

@@ -1,10 +1,8 @@
-use Prim.Native.Nat.{◌-◌, ◌≤◌}
-use mathlib.Core.Path.{◌≡◌}
-use Rattle.encode.specs.Models.{joints_writable}
+use Rattle.std.proofs.Common.{◌≡◌}
+use Rattle.spatial.specs.All.{all}
+use Rattle.model.specs.Tables.{entry_at}
+use Rattle.encode.specs.Models.{joint_writable}
 use Rattle.encode.proofs.joints.joints_writable.Given as goal
 
 abbrev pub invariant-loop-j : goal.invariant-loop-j
-invariant-loop-j l = (l.j ≤ l.n) × (l.good ≡ joints_writable l.kinds l.parents l.numbers l.j)
-
-abbrev pub decreases-loop-j : goal.decreases-loop-j
-decreases-loop-j l = l.n - l.j
+invariant-loop-j l = l.good ≡ all l.j (λ k. joint_writable (entry_at l.model k))

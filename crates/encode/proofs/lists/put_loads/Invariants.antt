@@ -1,13 +1,8 @@
-use Prim.Native.Nat.{◌-◌, ◌≤◌}
-use mathlib.Core.Path.{◌≡◌}
-use lib.ListN.{length}
+use Rattle.std.proofs.Common.{◌≡◌, length}
 use Rattle.wire.specs.Placed.{placed}
 use Rattle.encode.specs.Joined.{joined}
 use Rattle.encode.specs.Calls.{load_bytes}
 use Rattle.encode.proofs.lists.put_loads.Given as goal
 
 abbrev pub invariant-loop-i : goal.invariant-loop-i
-invariant-loop-i l = (l.i ≤ length l.links) × (length l.out ≡ length l.initial.out) × (l.out ≡ placed l.initial.out l.at (joined l.i (load_bytes l.links l.numbers)))
-
-abbrev pub decreases-loop-i : goal.decreases-loop-i
-decreases-loop-i l = length l.links - l.i
+invariant-loop-i l = (length l.out ≡ length l.initial.out) × (l.out ≡ placed l.initial.out l.at (joined l.i (load_bytes l.links l.numbers)))

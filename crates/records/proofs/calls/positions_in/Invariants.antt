@@ -1,6 +1,4 @@
-use Prim.Native.Nat.{◌-◌, ◌≤◌}
-use mathlib.Core.Path.{◌≡◌}
-use lib.ListN.{replicate}
+use Rattle.std.proofs.Common.{◌≡◌, replicate}
 use Rattle.wire.specs.Fill.{fill}
 use Rattle.spatial.specs.Constants.{plus_zero}
 use Rattle.model.specs.declared.Pose.TheVariants.{Slide}
@@ -9,7 +7,4 @@ use Rattle.records.specs.Calls.{pose_in}
 use Rattle.records.proofs.calls.positions_in.Given as goal
 
 abbrev pub invariant-loop-i : goal.invariant-loop-i
-invariant-loop-i l = (l.i ≤ l.m) × (l.t ≡ fill (λ k. pose_in l.s (pose_place l.c k)) (replicate 63 (Slide plus_zero)) l.i)
-
-abbrev pub decreases-loop-i : goal.decreases-loop-i
-decreases-loop-i l = l.m - l.i
+invariant-loop-i l = l.positions ≡ fill (λ k. pose_in l.s (pose_place l.c k)) (replicate 63 (Slide plus_zero)) l.i

@@ -1,4 +1,3 @@
-use Prim.Native.Nat.{◌-◌, ◌≤◌}
 use mathlib.Core.Path.{◌≡◌}
 use Rattle.spatial.specs.All.{all}
 use Rattle.records.specs.Places.{joint_place}
@@ -6,7 +5,4 @@ use Rattle.records.specs.Layout.{joint_laid}
 use Rattle.records.proofs.laid.joints_laid.Given as goal
 
 abbrev pub invariant-loop-j : goal.invariant-loop-j
-invariant-loop-j l = (l.j ≤ l.joints) × (l.good ≡ all l.j (λ i. joint_laid l.s (joint_place l.n i)))
-
-abbrev pub decreases-loop-j : goal.decreases-loop-j
-decreases-loop-j l = l.joints - l.j
+invariant-loop-j l = l.good ≡ all l.j (λ i. joint_laid l.s (joint_place l.n i))

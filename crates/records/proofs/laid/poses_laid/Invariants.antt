@@ -1,4 +1,3 @@
-use Prim.Native.Nat.{◌-◌, ◌≤◌}
 use mathlib.Core.Path.{◌≡◌}
 use Rattle.spatial.specs.All.{all}
 use Rattle.records.specs.Places.{pose_place}
@@ -6,7 +5,4 @@ use Rattle.records.specs.Layout.{pose_laid}
 use Rattle.records.proofs.laid.poses_laid.Given as goal
 
 abbrev pub invariant-loop-i : goal.invariant-loop-i
-invariant-loop-i l = (l.i ≤ l.m) × (l.good ≡ all l.i (λ k. pose_laid l.s (pose_place l.c k)))
-
-abbrev pub decreases-loop-i : goal.decreases-loop-i
-decreases-loop-i l = l.m - l.i
+invariant-loop-i l = l.good ≡ all l.i (λ k. pose_laid l.s (pose_place l.c k))

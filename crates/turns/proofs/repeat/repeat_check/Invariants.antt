@@ -1,8 +1,0 @@
-use Prim.Native.Nat.{◌-◌, ◌≤◌}
-use Rattle.turns.proofs.repeat.repeat_check.Given as goal
-
-abbrev pub invariant-loop-turn : goal.invariant-loop-turn
-invariant-loop-turn l = l.turn ≤ l.turns
-
-abbrev pub decreases-loop-turn : goal.decreases-loop-turn
-decreases-loop-turn l = l.turns - l.turn
