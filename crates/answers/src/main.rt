@@ -17,18 +17,14 @@ fn send(answer: &[u8]) -> bool {
 fn answer_all() -> bool {
     let mut input = io::large_buffer();
     let mut out = answer_room();
-    let mut turn = 0u64;
-    while turn < 1000000000 {
-        let frame = read_frame(&mut input);
-        if !frame.found {
+    for _ in 0..1000000000u64 {
+        let Some(n) = read_frame(&mut input) else {
             return true;
-        }
-        let n = frame.length;
+        };
         let k = answer(&input[..n], &mut out);
         if !send(&out[..k]) {
             return false;
         }
-        turn += 1;
     }
     true
 }

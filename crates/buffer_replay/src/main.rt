@@ -1,78 +1,20 @@
 // Replays a script of buffer operations and counts the answers that agree with the oracle's.
 #![tactic(auto)]
 
-ghost use Rattle.std.specs.Prelude.{◌<◌, ◌≤◌};
+ghost use Rattle.std.specs.Prelude.{◌<◌};
 
-use buffer::value::{add, clear, len, list, new, remove, set};
-use buffer::{Changed, LoadBuffer};
+use buffer::LoadBuffer;
+use frames::fields::{byte_at, u16_at, u64_at, wrench_at};
 use frames::{STDOUT_FILENO, read_frame};
 use loads::Load;
+use refusal::{Refusal, number};
+use spatial::constants::zero_wrench;
 use spatial::{Vector3, Wrench};
-use wire::read::double;
-
-// The buffer after an operation, and whether the answer is the oracle's.
-#[derive(Drop)]
-struct Played {
-    buffer: LoadBuffer,
-    same: bool,
-}
 
 #[derive(Drop)]
 struct Tally {
     run: u64,
     same: u64,
-}
-
-// A byte of a frame, 0 past its end.
-fn byte_at(s: &[u8], at: usize) -> u64
-    ensures { result < 256 }
-{
-    if at < s.len() { wide(s[at]) } else { 0 }
-}
-
-fn wide(b: u8) -> u64
-    ensures { result < 256 }
-{
-    b as u64
-}
-
-fn u16_at(s: &[u8], at: usize) -> u64
-    requires { at < 65536 }
-    ensures { result < 65536 }
-{
-    byte_at(s, at) * 256 + byte_at(s, at + 1)
-}
-
-fn u32_at(s: &[u8], at: usize) -> u64
-    requires { at < 65534 }
-    ensures { result < 4294967296 }
-{
-    u16_at(s, at) * 65536 + u16_at(s, at + 2)
-}
-
-fn u64_at(s: &[u8], at: usize) -> u64
-    requires { at < 65530 }
-{
-    u32_at(s, at) * 4294967296 + u32_at(s, at + 4)
-}
-
-fn vector_at(s: &[u8], at: usize) -> Vector3
-    requires { at < 65500 }
-{
-    Vector3 {
-        x: double(u64_at(s, at)),
-        y: double(u64_at(s, at + 8)),
-        z: double(u64_at(s, at + 16)),
-    }
-}
-
-fn wrench_at(s: &[u8], at: usize) -> Wrench
-    requires { at < 65400 }
-{
-    Wrench {
-        torque: vector_at(s, at),
-        force: vector_at(s, at + 24),
-    }
 }
 
 // Whether a finite double has the bits that a frame says.
@@ -101,7 +43,7 @@ fn same_wrench(w: Wrench, s: &[u8], at: usize) -> bool
 fn same_stored(load: Load, s: &[u8], at: usize) -> bool
     requires { at < 65200 }
 {
-    (load.link as u64 == u16_at(s, at)) & same_wrench(load.wrench, s, at + 2)
+    (load.link == u16_at(s, at) as usize) & same_wrench(load.wrench, s, at + 2)
 }
 
 // A load as it stands in a lent table: id, link and wrench.
@@ -113,122 +55,104 @@ fn same_listed(load: Load, s: &[u8], at: usize) -> bool
         & same_wrench(load.wrench, s, at + 16)
 }
 
-// Number, count and stored loads of an answer frame.
-fn same_answer(b: LoadBuffer, number: u8, s: &[u8]) -> bool {
-    let counted = len(b);
-    let listed = list(b, 64);
-    let n = listed.count;
-    let mut same = (number as u64 == byte_at(s, 0))
-        & (counted.number == 0)
-        & (listed.number == 0)
-        & (counted.count as u64 == u16_at(s, 1));
-    let mut i = 0;
-    while i < 64 {
-        if i < n {
-            same = same & same_stored(listed.loads[i], s, 3 + 50 * i);
-        }
-        i += 1;
-    }
-    same
+// A table of 64 places for a listing.
+fn empty_table() -> [Load; 64] {
+    let load = Load {
+        id: 0,
+        link: 0,
+        wrench: zero_wrench(),
+    };
+    [load; 64]
 }
 
-// The loads that a listing writes, after the stored ones.
-fn same_table(b: LoadBuffer, places: usize, s: &[u8]) -> bool {
-    let listed = list(b, places);
-    let n = listed.count;
-    let mut same = true;
-    if n > 64 {
+// Number, count and stored loads of an answer frame.
+fn same_answer(buffer: &LoadBuffer, number: u8, s: &[u8]) -> bool {
+    let mut table = empty_table();
+    let Ok(count) = buffer.len() else {
+        return false;
+    };
+    if buffer.list(&mut table).is_err() {
         return false;
     }
-    let mut i = 0;
-    while i < n {
-        same = same & same_listed(listed.loads[i], s, 3 + 50 * n + 64 * i);
-        i += 1;
+    let mut same = (number == byte_at(s, 0)) & (count == u16_at(s, 1) as usize);
+    for i in 0..64 {
+        if i < count {
+            same = same & same_stored(table[i], s, 3 + 50 * i);
+        }
     }
     same
 }
 
-// The number of an operation frame, and the buffer after it.
-fn apply(b: LoadBuffer, s: &[u8]) -> Changed {
-    let code = byte_at(s, 0);
+// The loads that a listing into a table of so many places writes, after the stored ones.
+fn same_table(buffer: &LoadBuffer, places: usize, s: &[u8]) -> bool {
+    let mut table = empty_table();
+    let Ok(count) = list(buffer, places, &mut table) else {
+        return true;
+    };
+    if count > 64 {
+        return false;
+    }
+    let mut same = true;
+    for i in 0..64 {
+        if i < count {
+            same = same & same_listed(table[i], s, 3 + 50 * count + 64 * i);
+        }
+    }
+    same
+}
+
+// How many loads a listing writes into the first so many places of a table, all of them if there are more.
+fn list(buffer: &LoadBuffer, places: usize, table: &mut [Load; 64]) -> Result<usize, Refusal> {
+    buffer.list(&mut table[..places.min(64)])?;
+    buffer.len()
+}
+
+// An operation frame's answer, and the buffer changed as it says.
+fn apply(buffer: &mut LoadBuffer, s: &[u8]) -> Result<(), Refusal> {
     let id = u64_at(s, 1);
     let link = u64_at(s, 9) as usize;
-    if code == 1 {
-        let made = new(id, link);
-        if made.number != 0 {
-            return Changed {
-                number: made.number,
-                buffer: b,
-            };
+    match byte_at(s, 0) {
+        1 => {
+            *buffer = LoadBuffer::new(id, link)?;
+            Ok(())
         }
-        return made;
-    }
-    if code == 2 {
-        return set(b, id, link, wrench_at(s, 17));
-    }
-    if code == 3 {
-        return add(b, id, link, wrench_at(s, 17));
-    }
-    if code == 4 {
-        return remove(b, id, link);
-    }
-    if code == 5 {
-        return clear(b);
-    }
-    if code == 6 {
-        let listed = list(b, id as usize);
-        return Changed {
-            number: listed.number,
-            buffer: b,
-        };
-    }
-    let counted = len(b);
-    Changed {
-        number: counted.number,
-        buffer: b,
+        2 => buffer.set(id, link, wrench_at(s, 17)),
+        3 => buffer.add(id, link, wrench_at(s, 17)),
+        4 => buffer.remove(id, link),
+        5 => buffer.clear(),
+        6 => list(buffer, id as usize, &mut empty_table()).map(|_| ()),
+        _ => buffer.len().map(|_| ()),
     }
 }
 
-// One operation frame and its answer frame.
-fn turn(b: LoadBuffer, operation: &[u8], answer: &[u8]) -> Played {
-    let r = apply(b, operation);
-    let next = r.buffer;
-    let mut same = same_answer(next, r.number, answer);
+// Whether the answer to one operation frame is that of its answer frame.
+fn turn(buffer: &mut LoadBuffer, operation: &[u8], answer: &[u8]) -> bool {
+    let told = number(apply(buffer, operation));
+    let mut same = same_answer(buffer, told, answer);
     if byte_at(operation, 0) == 6 {
         let places = u64_at(operation, 1) as usize;
-        same = same & same_table(next, places, answer);
+        same = same & same_table(buffer, places, answer);
     }
-    Played { buffer: next, same }
+    same
 }
 
 // The whole script, at most a million operations.
 fn replay() -> Tally {
-    let first = new(0, 1);
-    let mut b = first.buffer;
+    let mut same = 0;
+    let Ok(mut buffer) = LoadBuffer::new(0, 1) else {
+        return Tally { run: 0, same };
+    };
     let mut operation = io::large_buffer();
     let mut answer = io::large_buffer();
-    let mut same = 0;
-    let mut run = 0;
-    while run < 1000000 {
-        let frame = read_frame(&mut operation);
-        if !frame.found {
+    for run in 0..1000000u64 {
+        let Some(k) = read_frame(&mut operation) else {
             return Tally { run, same };
-        }
-        let told = read_frame(&mut answer);
-        let k = frame.length;
-        let n = told.length;
-        let t = turn(b, &operation[..k], &answer[..n]);
-        b = t.buffer;
-        same += bit(t.same);
-        run += 1;
+        };
+        let n = read_frame(&mut answer).unwrap_or(0);
+        let agrees = turn(&mut buffer, &operation[..k], &answer[..n]);
+        same += u64::from(agrees);
     }
-    Tally { run, same }
-}
-
-fn bit(t: bool) -> u64
-    ensures { result ≤ 1 }
-{
-    if t { 1 } else { 0 }
+    Tally { run: 1000000, same }
 }
 
 fn main() {

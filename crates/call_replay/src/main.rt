@@ -1,28 +1,22 @@
 // Replays calls of the three functions and counts the answers that agree with the oracle's.
 #![tactic(auto)]
 
-ghost use Rattle.std.specs.Prelude.{◌<◌, ◌≤◌};
+ghost use Rattle.std.specs.Prelude.{◌<◌, ◌≤◌, length};
 
+use build::blank_model;
+use frames::fields::{byte_at, f64_at, u64_at, vector_at};
 use frames::{STDOUT_FILENO, read_frame};
-use model::{BaseState, Model, Pose, RootMode};
+use loads::LoadTable;
+use model::{BaseState, JointEntry, Link, Model, Pose, RootMode};
+use outcome::{Function, JointStates};
+use records::calls::{function_of, mode_of};
+use refusal::{Refusal, number};
 use robot::gravity::gravity_flat;
 use robot::inverse::inverse_dynamics_flat;
 use robot::velocity::velocity_product_forces;
-use spatial::{Frame, Quaternion, Twist, Vector3};
+use spatial::{Frame, Matrix3, Quaternion, Twist};
 use wire::read::double;
-
-// A byte of a frame, 0 past its end.
-fn byte_at(s: &[u8], at: usize) -> u64
-    ensures { result < 256 }
-{
-    if at < s.len() { wide(s[at]) } else { 0 }
-}
-
-fn wide(b: u8) -> u64
-    ensures { result < 256 }
-{
-    b as u64
-}
+use wire::write::pattern;
 
 // A place of a frame, moved on; 0 past 65,000.
 fn after(at: usize, more: usize) -> usize
@@ -36,95 +30,52 @@ fn after(at: usize, more: usize) -> usize
     0
 }
 
-fn u16_at(s: &[u8], at: usize) -> u64
-    requires { at < 65536 }
-    ensures { result < 65536 }
+fn size_at(s: &[u8], at: usize) -> usize
+    requires { at < 65500 }
 {
-    byte_at(s, at) * 256 + byte_at(s, at + 1)
+    u64_at(s, at) as usize
 }
 
-fn u32_at(s: &[u8], at: usize) -> u64
-    requires { at < 65534 }
-    ensures { result < 4294967296 }
-{
-    u16_at(s, at) * 65536 + u16_at(s, at + 2)
-}
-
-fn u64_in(s: &[u8], at: usize) -> u64
-    requires { at < 65530 }
-{
-    u32_at(s, at) * 4294967296 + u32_at(s, at + 4)
-}
-
-// The number at a place, so many bytes on.
-fn u64_at(s: &[u8], at: usize, more: usize) -> u64 {
-    u64_in(s, after(at, more))
-}
-
-fn f64_at(s: &[u8], at: usize, more: usize) -> f64 {
-    double(u64_at(s, at, more))
-}
-
-fn size_at(s: &[u8], at: usize, more: usize) -> usize {
-    u64_at(s, at, more) as usize
-}
-
-// n, but at most so many.
-fn least(n: usize, most: usize) -> usize
-    ensures { result ≤ most }
-{
-    if n < most { n } else { most }
-}
-
-fn vector_at(s: &[u8], at: usize, more: usize) -> Vector3
-    requires { more < 1000 }
-{
-    Vector3 {
-        x: f64_at(s, at, more),
-        y: f64_at(s, at, more + 8),
-        z: f64_at(s, at, more + 16),
-    }
-}
-
-fn twist_at(s: &[u8], at: usize, more: usize) -> Twist
-    requires { more < 900 }
+fn twist_at(s: &[u8], at: usize) -> Twist
+    requires { at < 65400 }
 {
     Twist {
-        angular: vector_at(s, at, more),
-        linear: vector_at(s, at, more + 24),
+        angular: vector_at(s, at),
+        linear: vector_at(s, at + 24),
     }
 }
 
-fn base_at(s: &[u8], at: usize) -> BaseState {
-    let rotation = Quaternion {
-        w: f64_at(s, at, 0),
-        i: f64_at(s, at, 8),
-        j: f64_at(s, at, 16),
-        k: f64_at(s, at, 24),
-    };
-    let translation = vector_at(s, at, 32);
-    let frame = Frame {
-        rotation,
-        translation,
-    };
-    let velocity = twist_at(s, at, 56);
-    let acceleration = twist_at(s, at, 104);
+fn frame_at(s: &[u8], at: usize) -> Frame
+    requires { at < 65300 }
+{
+    Frame {
+        rotation: Quaternion {
+            w: f64_at(s, at),
+            i: f64_at(s, at + 8),
+            j: f64_at(s, at + 16),
+            k: f64_at(s, at + 24),
+        },
+        translation: vector_at(s, at + 32),
+    }
+}
+
+fn base_at(s: &[u8], at: usize) -> BaseState
+    requires { at < 65000 }
+{
     BaseState {
-        frame,
-        velocity,
-        acceleration,
+        frame: frame_at(s, at),
+        velocity: twist_at(s, at + 56),
+        acceleration: twist_at(s, at + 104),
     }
 }
 
 // n floats.
-fn floats_at(s: &[u8], at: usize, n: usize) -> [f64; 512] {
+fn floats_at(s: &[u8], at: usize, n: usize) -> [f64; 512]
+    requires { n ≤ 512 }
+{
     let mut t = [0.0; 512];
-    let mut i = 0;
-    while i < 512 {
-        if i < n {
-            t[i] = f64_at(s, at, i * 8);
-        }
-        i += 1;
+    for i in 0..n {
+        t[i] = f64_at(s, after(at, 8 * i));
     }
     t
 }
@@ -134,191 +85,107 @@ fn wrenches_at(s: &[u8], at: usize, n: usize) -> [f64; 5400]
     requires { n ≤ 900 }
 {
     let mut t = [0.0; 5400];
-    let mut i = 0;
-    while i < 5400 {
-        if i < n * 6 {
-            t[i] = f64_at(s, at, i / 6 * 64 + 16 + i % 6 * 8);
-        }
-        i += 1;
+    for i in 0..6 * n {
+        t[i] = f64_at(s, after(at, i / 6 * 64 + 16 + i % 6 * 8));
     }
     t
 }
 
-fn ids_at(s: &[u8], at: usize, n: usize) -> [u64; 900] {
+fn ids_at(s: &[u8], at: usize, n: usize) -> [u64; 900]
+    requires { n ≤ 900 }
+{
     let mut t = [0; 900];
-    let mut i = 0;
-    while i < 900 {
-        if i < n {
-            t[i] = u64_at(s, at, i * 64);
-        }
-        i += 1;
+    for i in 0..n {
+        t[i] = u64_at(s, after(at, 64 * i));
     }
     t
 }
 
-fn load_links_at(s: &[u8], at: usize, n: usize) -> [usize; 900] {
+fn load_links_at(s: &[u8], at: usize, n: usize) -> [usize; 900]
+    requires { n ≤ 900 }
+{
     let mut t = [0; 900];
-    let mut i = 0;
-    while i < 900 {
-        if i < n {
-            t[i] = size_at(s, at, i * 64 + 8);
-        }
-        i += 1;
+    for i in 0..n {
+        t[i] = size_at(s, after(at, 64 * i + 8));
     }
     t
 }
 
-fn links_at(s: &[u8], n: usize) -> [f64; 832]
-    requires { n ≤ 64 }
+// 13 floats a link.
+fn link_at(s: &[u8], at: usize) -> Link
+    requires { at < 65000 }
 {
-    let mut t = [0.0; 832];
-    let mut i = 0;
-    while i < 832 {
-        if i < n * 13 {
-            t[i] = f64_at(s, 26, i * 8);
-        }
-        i += 1;
+    Link {
+        mass: f64_at(s, at),
+        center: vector_at(s, at + 8),
+        inertia: Matrix3 {
+            x: vector_at(s, at + 32),
+            y: vector_at(s, at + 56),
+            z: vector_at(s, at + 80),
+        },
     }
-    t
-}
-
-fn joints_at(s: &[u8], at: usize, n: usize) -> [f64; 630]
-    requires { n ≤ 64 }
-{
-    let mut t = [0.0; 630];
-    let mut i = 0;
-    while i < 630 {
-        if i < n * 10 {
-            t[i] = f64_at(s, at, i / 10 * 97 + 17 + i % 10 * 8);
-        }
-        i += 1;
-    }
-    t
-}
-
-// A byte as one.
-fn narrow(b: u64) -> u8
-    requires { b < 256 }
-{
-    b as u8
 }
 
 // 97 bytes a joint: kind, parent, number, ten floats.
-fn kinds_at(s: &[u8], at: usize, n: usize) -> [u8; 63] {
-    let mut t = [0; 63];
-    let mut j = 0;
-    while j < 63 {
-        if j < n {
-            t[j] = narrow(byte_at(s, after(at, j * 97)));
-        }
-        j += 1;
-    }
-    t
-}
-
-fn parents_at(s: &[u8], at: usize, n: usize) -> [usize; 63] {
-    let mut t = [0; 63];
-    let mut j = 0;
-    while j < 63 {
-        if j < n {
-            t[j] = size_at(s, at, j * 97 + 1);
-        }
-        j += 1;
-    }
-    t
-}
-
-fn numbers_at(s: &[u8], at: usize, n: usize) -> [usize; 63] {
-    let mut t = [0; 63];
-    let mut j = 0;
-    while j < 63 {
-        if j < n {
-            t[j] = size_at(s, at, j * 97 + 9);
-        }
-        j += 1;
-    }
-    t
-}
-
-// One joint fewer than links.
-fn joints_of(n: usize) -> usize
-    requires { n ≤ 64 }
-    ensures { result ≤ 64 }
+fn entry_at(s: &[u8], at: usize) -> JointEntry
+    requires { at < 65000 }
 {
-    if n == 0 {
-        return 0;
+    JointEntry {
+        kind: byte_at(s, at),
+        parent: size_at(s, at + 1),
+        number: size_at(s, at + 9),
+        origin: frame_at(s, at + 17),
+        axis: vector_at(s, at + 73),
     }
-    n - 1
 }
 
 fn model_at(s: &[u8]) -> Model {
-    let count = size_at(s, 10, 0);
-    let n = least(count, 64);
+    let count = size_at(s, 10);
+    let n = count.min(64);
+    let mut model = blank_model(u64_at(s, 2), count, size_at(s, 18));
+    for l in 0..n {
+        model.links[l] = link_at(s, 26 + 104 * l);
+    }
     let at = 26 + 104 * n;
-    let last = joints_of(n);
-    let kinds = kinds_at(s, at, last);
-    let parents = parents_at(s, at, last);
-    let numbers = numbers_at(s, at, last);
-    let links = links_at(s, n);
-    let joints = joints_at(s, at, last);
-    Model {
-        id: u64_at(s, 2, 0),
-        count,
-        moving: size_at(s, 18, 0),
-        kinds,
-        parents,
-        numbers,
-        links,
-        joints,
+    for j in 0..n.saturating_sub(1) {
+        model.joints[j] = entry_at(s, at + 97 * j);
     }
+    model
 }
 
-fn pose_at(s: &[u8], at: usize, more: usize) -> Pose
-    requires { more < 5000 }
+fn pose_at(s: &[u8], at: usize) -> Pose
+    requires { at < 65000 }
 {
-    if byte_at(s, after(at, more)) == 1 {
-        return Pose::Half(f64_at(s, at, more + 1), f64_at(s, at, more + 9));
+    let first = f64_at(s, at + 1);
+    if byte_at(s, at) == 1 {
+        return Pose::Half(first, f64_at(s, at + 9));
     }
-    Pose::Slide(f64_at(s, at, more + 1))
+    Pose::Slide(first)
 }
 
-fn positions_at(s: &[u8], at: usize, n: usize) -> [Pose; 63] {
-    let none = Pose::Slide(0.0);
-    let mut t = [none; 63];
-    let mut i = 0;
-    while i < 63 {
-        if i < n {
-            t[i] = pose_at(s, at, i * 17);
-        }
-        i += 1;
+// n entries, and distances of 0 after them; one more than a good model moves.
+fn positions_at(s: &[u8], at: usize, n: usize) -> [Pose; 64]
+    requires { n ≤ 63 }
+{
+    let mut t = [Pose::Slide(0.0); 64];
+    for i in 0..n {
+        t[i] = pose_at(s, after(at, 17 * i));
     }
     t
-}
-
-fn mode_of(code: u64) -> RootMode {
-    if code == 0 {
-        return RootMode::Fixed;
-    }
-    RootMode::Floating
 }
 
 // Whether a double has these bits; a NaN has any NaN's.
 fn same_double(x: f64, bits: u64) -> bool {
-    if x != x {
-        return bits % 9223372036854775808 > 9218868437227405312;
-    }
-    f64::to_bits(x) == bits
+    pattern(x) == pattern(double(bits))
 }
 
 // The number, the count, and the output as the answer frame says.
-fn same_answer(number: u8, output: &[f64], s: &[u8]) -> bool {
-    let mut same = (number as u64 == byte_at(s, 0)) & (output.len() as u64 == u64_at(s, 1, 0));
-    let mut i = 0;
-    while i < output.len() {
-        if i < 3000 {
-            same = same & same_double(output[i], u64_at(s, 9, i * 8));
-        }
-        i += 1;
+fn same_answer(number: u8, output: &[f64], s: &[u8]) -> bool
+    requires { length output.now ≤ 512 }
+{
+    let mut same = (number == byte_at(s, 0)) & (output.len() as u64 == u64_at(s, 1));
+    for (i, x) in output.iter().enumerate() {
+        same = same & same_double(*x, u64_at(s, 9 + 8 * i));
     }
     same
 }
@@ -336,14 +203,16 @@ struct Lists {
     wide: usize,
 }
 
-fn lists_at(s: &[u8], at: usize) -> Lists {
-    let fast = least(size_at(s, at, 0), 512);
+fn lists_at(s: &[u8], at: usize) -> Lists
+    requires { at < 65000 }
+{
+    let fast = size_at(s, at).min(512);
     let second = after(at, 8 + 8 * fast);
-    let pushed = least(size_at(s, second, 0), 512);
+    let pushed = size_at(s, second).min(512);
     let third = after(second, 8 + 8 * pushed);
-    let loads = least(size_at(s, third, 0), 900);
+    let loads = size_at(s, third).min(900);
     let last = after(third, 8 + 64 * loads);
-    let wide = least(size_at(s, last, 0), 512);
+    let wide = size_at(s, last).min(512);
     Lists {
         first: after(at, 8),
         fast,
@@ -356,116 +225,75 @@ fn lists_at(s: &[u8], at: usize) -> Lists {
     }
 }
 
-// The number that the function of the case answers.
-fn asked<'a>(
-    function: u64,
+// A case: what is asked, and of what.
+#[derive(Clone, Copy)]
+struct Case<'a> {
+    function: Function,
     mode: RootMode,
-    model: Model,
-    base: BaseState,
-    positions: [Pose; 63],
-    entries: usize,
-    speeds: &'a [f64],
-    accelerations: &'a [f64],
-    ids: &'a [u64],
-    links: &'a [usize],
-    wrenches: &'a [f64],
-    output: &mut [f64],
-) -> u8 {
-    if function == 1 {
-        return inverse_dynamics_flat(
-            mode,
-            model,
-            base,
-            positions,
-            entries,
-            speeds,
-            accelerations,
-            ids,
-            links,
-            wrenches,
+    model: &'a Model,
+    base: &'a BaseState,
+    joints: JointStates<'a>,
+    loads: LoadTable<'a>,
+}
+
+fn asked(case: Case, output: &mut [f64]) -> Result<(), Refusal> {
+    let joints = case.joints;
+    match case.function {
+        Function::InverseDynamics => inverse_dynamics_flat(
+            case.mode, case.model, case.base, joints, case.loads, output,
+        ),
+        Function::Gravity => gravity_flat(
+            case.mode,
+            case.model,
+            case.base,
+            joints.positions,
+            case.loads,
             output,
-        );
+        ),
+        Function::VelocityProduct => velocity_product_forces(
+            case.mode,
+            case.model,
+            case.base,
+            joints.positions,
+            joints.speeds,
+            output,
+        ),
     }
-    if function == 2 {
-        return gravity_flat(
-            mode, model, base, positions, entries, ids, links, wrenches, output,
-        );
-    }
-    velocity_product_forces(mode, model, base, positions, entries, speeds, output)
 }
 
-// Whether the answer is the oracle's; so many loads stand at a place of the case.
-fn judged<'a>(
-    function: u64,
-    mode: RootMode,
-    model: Model,
-    base: BaseState,
-    positions: [Pose; 63],
-    entries: usize,
-    speeds: &'a [f64],
-    accelerations: &'a [f64],
-    s: &'a [u8],
-    at: usize,
-    loads: usize,
-    output: &mut [f64],
-    answer: &'a [u8],
-) -> bool {
-    let n = least(loads, 900);
-    let ids = ids_at(s, at, n);
-    let links = load_links_at(s, at, n);
-    let wrenches = wrenches_at(s, at, n);
-    let end = n * 6;
-    let number = asked(
-        function,
-        mode,
-        model,
-        base,
-        positions,
-        entries,
-        speeds,
-        accelerations,
-        &ids[0..n],
-        &links[0..n],
-        &wrenches[0..end],
-        output,
-    );
-    same_answer(number, output, answer)
-}
-
-// One case frame and its answer frame.
-fn turn<'a>(s: &'a [u8], answer: &'a [u8]) -> bool {
+// One case frame and its answer frame: whether the answer is the oracle's. Of more positions than a good model moves, one too many is asked.
+fn turn(s: &[u8], answer: &[u8]) -> bool {
     let model = model_at(s);
-    let n = least(model.count, 64);
-    let last = joints_of(n);
-    let at = 26 + 104 * n + 97 * last;
+    let n = model.count.min(64);
+    let at = 26 + 104 * n + 97 * n.saturating_sub(1);
     let base = base_at(s, at);
-    let entries = size_at(s, at, 152);
-    let held = least(entries, 63);
+    let entries = size_at(s, at + 152);
+    let held = entries.min(63);
     let positions = positions_at(s, after(at, 160), held);
     let lists = lists_at(s, after(at, 160 + 17 * held));
-    let fast = least(lists.fast, 512);
-    let pushed = least(lists.pushed, 512);
-    let wide = least(lists.wide, 512);
-    let mode = mode_of(byte_at(s, 1));
-    let function = byte_at(s, 0);
-    let speeds = floats_at(s, lists.first, fast);
-    let accelerations = floats_at(s, lists.second, pushed);
+    let fast = lists.fast.min(512);
+    let pushed = lists.pushed.min(512);
+    let wide = lists.wide.min(512);
+    let k = lists.loads.min(900);
+    let case = Case {
+        function: function_of(byte_at(s, 0)),
+        mode: mode_of(byte_at(s, 1)),
+        model: &model,
+        base: &base,
+        joints: JointStates {
+            positions: &positions[..entries.min(64)],
+            speeds: &floats_at(s, lists.first, fast)[..fast],
+            accelerations: &floats_at(s, lists.second, pushed)[..pushed],
+        },
+        loads: LoadTable {
+            ids: &ids_at(s, lists.third, k)[..k],
+            links: &load_links_at(s, lists.third, k)[..k],
+            numbers: &wrenches_at(s, lists.third, k)[..6 * k],
+        },
+    };
     let mut output = floats_at(s, lists.last, wide);
-    judged(
-        function,
-        mode,
-        model,
-        base,
-        positions,
-        entries,
-        &speeds[0..fast],
-        &accelerations[0..pushed],
-        s,
-        lists.third,
-        lists.loads,
-        &mut output[0..wide],
-        answer,
-    )
+    let told = asked(case, &mut output[..wide]);
+    same_answer(number(told), &output[..wide], answer)
 }
 
 // How many cases there were, and how many answers agreed.
@@ -480,25 +308,14 @@ fn replay() -> Tally {
     let mut case = io::large_buffer();
     let mut answer = io::large_buffer();
     let mut same = 0;
-    let mut run = 0;
-    while run < 1000000 {
-        let frame = read_frame(&mut case);
-        if !frame.found {
+    for run in 0..1000000u64 {
+        let Some(k) = read_frame(&mut case) else {
             return Tally { run, same };
-        }
-        let told = read_frame(&mut answer);
-        let k = frame.length;
-        let n = told.length;
-        same += bit(turn(&case[..k], &answer[..n]));
-        run += 1;
+        };
+        let n = read_frame(&mut answer).unwrap_or(0);
+        same += u64::from(turn(&case[..k], &answer[..n]));
     }
-    Tally { run, same }
-}
-
-fn bit(t: bool) -> u64
-    ensures { result ≤ 1 }
-{
-    if t { 1 } else { 0 }
+    Tally { run: 1000000, same }
 }
 
 fn main() {

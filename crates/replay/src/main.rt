@@ -27,16 +27,6 @@ fn number_in(answer: &[u8]) -> usize
     15
 }
 
-fn bit(t: bool) -> u64
-    ensures { result ≤ 1 }
-{
-    if t { 1 } else { 0 }
-}
-
-fn one_more(n: u64) -> u64 {
-    if n < 1000000 { n + 1 } else { n }
-}
-
 // All cases, at most a million.
 fn replay() -> Tally {
     let mut input = io::large_buffer();
@@ -44,22 +34,21 @@ fn replay() -> Tally {
     let mut out = answer_room();
     let mut numbers = [0u64; 16];
     let mut same = 0;
-    let mut run = 0;
-    while run < 1000000 {
-        let case = read_frame(&mut input);
-        if !case.found {
+    for run in 0..1000000u64 {
+        let Some(n) = read_frame(&mut input) else {
             return Tally { run, same, numbers };
-        }
-        let n = case.length;
-        let told = read_frame(&mut expected);
-        let e = told.length;
+        };
+        let e = read_frame(&mut expected).unwrap_or(0);
         let k = answer(&input[..n], &mut out);
-        same += bit(check::same(&out[..k], &expected[..e]));
+        same += u64::from(check::same(&out[..k], &expected[..e]));
         let number = number_in(&expected[..e]);
-        numbers[number] = one_more(numbers[number]);
-        run += 1;
+        numbers[number] = numbers[number].saturating_add(1);
     }
-    Tally { run, same, numbers }
+    Tally {
+        run: 1000000,
+        same,
+        numbers,
+    }
 }
 
 fn print_count(number: u64, count: u64) {
@@ -71,14 +60,11 @@ fn print_count(number: u64, count: u64) {
 }
 
 // The refusal numbers that were answered.
-fn print_counts(counts: [u64; 16]) {
-    let mut number = 0usize;
-    while number < 16 {
-        let count = counts[number];
+fn print_counts(counts: &[u64; 16]) {
+    for (number, &count) in counts.iter().enumerate() {
         if count != 0 {
             print_count(number as u64, count);
         }
-        number += 1;
     }
 }
 
@@ -89,6 +75,5 @@ fn main() {
     io::write_all(STDOUT_FILENO, b", answers that agree ");
     io::print_decimal(STDOUT_FILENO, t.same);
     io::write_all(STDOUT_FILENO, b"\n");
-    let counts = t.numbers;
-    print_counts(counts);
+    print_counts(&t.numbers);
 }

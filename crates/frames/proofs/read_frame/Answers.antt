@@ -5,6 +5,3 @@ use Rattle.frames.proofs.read_frame.Goals as goal
 
 pub slice_bounds-read_full-end-3 : goal.slice_bounds-read_full-end-3
 slice_bounds-read_full-end-3 c = sym (length-take-le _ _ (omega arith))
-
-pub returns : goal.returns
-returns c = (omega arith, sym (length-take-le _ _ (omega arith)))
