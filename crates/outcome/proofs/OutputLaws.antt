@@ -1,12 +1,10 @@
 -- What a kernel writes, as the list that the definition gives.
-use Prim.Native.Nat.{ℕ, zero, suc, ◌+◌, ◌<◌, ◌≤◌}
-use mathlib.Core.List.{List, [], ◌∷◌, ◌++◌}
+use Prim.Native.Nat.{ℕ, ◌+◌, ◌<◌}
+use mathlib.Core.List.{List, [], ◌++◌}
 use mathlib.Core.Path.{◌≡◌, sym, ap, ◌∙◌}
-use native.Mathlib.Nat.{eq-or-lt_of_le}
 use native.Mathlib.Omega.{arith}
-use mathlib.Core.Logic.{⊎_elim}
-use lib.ListN.{length, get_or, take, drop, length-drop, get_or-append, take-append-drop}
-use lib.Seq.{ext_get_or, get_or-append-add}
+use lib.ListN.{length, get_or, take, drop, length-drop, take-append-drop}
+use lib.Seq.{ext_get_or}
 use lib.Ieee.{Float, nan}
 use Rattle.spatial.specs.declared.Wrench.{Wrench}
 use Rattle.tree.specs.Tree.{Kernel}
@@ -26,21 +24,11 @@ use Rattle.model.specs.Good.{GoodModel}
 use Rattle.model.specs.declared.RootMode.TheVariants.{Fixed, Floating as FloatingMode}
 use Rattle.model.proofs.GoodLaws.{parent_first, number_below, number_apart}
 use Rattle.spatial.specs.Listed.{list_of}
-use Rattle.spatial.proofs.ListedLaws.{length_list_of}
+use Rattle.spatial.proofs.ListedLaws.{length_list_of, listed_at}
 use Rattle.outcome.specs.Solved.{solved_list}
 
 pub get_or_list_of : (n : ℕ) (f : ℕ → Float) (i : ℕ) → i < n → get_or (list_of n f) i nan ≡ f i
-unfolding list_of
-get_or_list_of zero f i l = absurd (omega arith)
-get_or_list_of (suc n) f i l =
-    let m : i ≤ n = omega arith in
-    let e : length (list_of n f) ≡ n = length_list_of n f in
-    ⊎_elim
-    (λ q.
-    let p : i ≡ length (list_of n f) + 0 = omega arith in
-    ap (λ (x : ℕ). get_or (list_of n f ++ (f n ∷ [])) x nan) p ∙ get_or-append-add (list_of n f) (f n ∷ []) 0 nan ∙ ap f (sym q))
-    (λ q. get_or-append (list_of n f) (f n ∷ []) nan i (omega arith) ∙ get_or_list_of n f i q)
-    (eq-or-lt_of_le m)
+get_or_list_of n f i = listed_at n f i nan
 
 -- the numbering of a run's joints, for m numbers
 abbrev pub numbers_of : Run → ℕ → Numbering
