@@ -7,6 +7,7 @@ use Rattle.spatial.specs.Wrenches.{wrench_sum}
 use Rattle.loads.specs.declared.Load.{Load}
 use Rattle.buffer.specs.declared.Stored.{Stored}
 use Rattle.buffer.specs.declared.LoadBuffer.{LoadBuffer}
+use Rattle.buffer.specs.declared.Listing.{Listing}
 use Rattle.loads.specs.Checks.{or_else, accepted, links_checked, link_checked, wrench_checked, sum_checked, list_checked}
 use Rattle.buffer.specs.Agree.{MAX, cleared, at, mark, tables}
 
@@ -158,3 +159,8 @@ list_of b places =
       count = accepted (list_number b places) b.count 0;
       loads = accepted (list_number b places) (listed_in b blank_table) blank_table;
     }
+
+-- a listing by value, as it is given
+abbrev pub gathered : Result Listing Refusal → Listed
+gathered (Ok l) = record { number = 0; count = l.count; loads = l.loads }
+gathered (Err e) = record { number = number_of e; count = 0; loads = blank_table }

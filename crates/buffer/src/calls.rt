@@ -1,11 +1,11 @@
 // The calls on a load buffer, each for every buffer; a refused one changes nothing.
-ghost use Rattle.std.specs.Prelude.{◌≡◌, length, IfOk, OnOk};
+ghost use Rattle.std.specs.Prelude.{◌≡◌, ◌≤◌, length, IfOk, OnOk};
 ghost use Rattle.refusal.specs.Numbers.{number};
 ghost use Rattle.loads.specs.Checks.{accepted};
 ghost use Rattle.buffer.specs.Agree.{cleared};
-ghost use Rattle.buffer.specs.Calls.{Ready, empty_buffer, new_of, put_of, set_number, set_of, added_of, add_number, add_of, drop_of, remove_number, remove_of, clear_of, counted, len_of, emptied, is_empty_of, list_number, listed_in};
+ghost use Rattle.buffer.specs.Calls.{Ready, empty_buffer, new_of, put_of, set_number, set_of, added_of, add_number, add_of, drop_of, remove_number, remove_of, clear_of, counted, len_of, emptied, is_empty_of, list_number, listed_in, blank_table, list_of, gathered};
 
-use crate::{LoadBuffer, Stored};
+use crate::{Listing, LoadBuffer, Stored};
 use loads::Load;
 use loads::checks::{check_link, check_links, check_list, check_sum, check_wrench};
 use refusal::Refusal;
@@ -23,10 +23,23 @@ fn cleared_place() -> Stored
     }
 }
 
+// A table of 64 loads of id 0, link 0 and +0.
+#[tactic(auto, unfolding(crate::specs::Calls::blank_table))]
+fn blank_table() -> [Load; 64]
+    ensures { result ≡ blank_table }
+{
+    let load = Load {
+        id: 0,
+        link: 0,
+        wrench: zero_wrench(),
+    };
+    [load; 64]
+}
+
 impl LoadBuffer {
-    // A buffer with no load, of any link count.
+    /// A buffer with no load, of any link count; where that is not 1 to 64, which `new` refuses, every call on it answers 11.
     #[tactic(auto, unfolding(crate::specs::Calls::empty_buffer))]
-    fn empty(id: u64, links: usize) -> LoadBuffer
+    pub fn empty(id: u64, links: usize) -> LoadBuffer
         ensures { result ≡ empty_buffer id links }
     {
         LoadBuffer {
@@ -181,14 +194,13 @@ impl LoadBuffer {
         self.check_tables().map(|()| self.count == 0)
     }
 
-    /// Copies the loads, in stored order, into the front of a lent table, each with the buffer's id.
-    #[tactic(auto, using(loads::proofs::CheckLaws::stands, loads::proofs::CheckLaws::left_alone, loads::proofs::CheckLaws::right_list, crate::proofs::CallLaws::count_small, crate::proofs::CallLaws::copied_more), unfolding(crate::specs::Calls::listed_in))]
-    pub fn list(&self, table: &mut [Load]) -> Result<(), Refusal>
-        ensures answer { number result ≡ list_number self.now (length table.old) }
-        ensures after { table.new ≡ accepted (list_number self.now (length table.old)) (listed_in self.now table.old) table.old }
+    // Copies the loads, in stored order, to the front of a table.
+    #[tactic(auto, using(crate::proofs::CallLaws::copied_more), unfolding(crate::specs::Calls::listed_in))]
+    fn copy_loads(&self, table: &mut [Load])
+        requires room { self.now.count ≤ length table.old }
+        requires small { self.now.count ≤ 64 }
+        ensures { table.new ≡ listed_in self.now table.old }
     {
-        self.check_tables()
-            .and_then(|()| check_list(self.count, table.len()))?;
         for place in 0..self.count {
             let stored = self.loads[place];
             table[place] = Load {
@@ -197,6 +209,32 @@ impl LoadBuffer {
                 wrench: stored.wrench,
             };
         }
+    }
+
+    /// Copies the loads, in stored order, into the front of a lent table, each with the buffer's id.
+    #[tactic(auto, using(loads::proofs::CheckLaws::stands, loads::proofs::CheckLaws::left_alone, loads::proofs::CheckLaws::right_list, crate::proofs::CallLaws::count_small))]
+    pub fn list(&self, table: &mut [Load]) -> Result<(), Refusal>
+        ensures answer { number result ≡ list_number self.now (length table.old) }
+        ensures after { table.new ≡ accepted (list_number self.now (length table.old)) (listed_in self.now table.old) table.old }
+    {
+        self.check_tables()
+            .and_then(|()| check_list(self.count, table.len()))?;
+        self.copy_loads(table);
         Ok(())
+    }
+
+    /// The loads in stored order by value, for a table of so many places.
+    #[tactic(auto, using(loads::proofs::CheckLaws::stands, loads::proofs::CheckLaws::left_alone, loads::proofs::CheckLaws::right_list, crate::proofs::CallLaws::count_small), unfolding(crate::specs::Calls::list_of))]
+    pub fn listed(&self, places: usize) -> Result<Listing, Refusal>
+        ensures { gathered result ≡ list_of self.now places }
+    {
+        self.check_tables()
+            .and_then(|()| check_list(self.count, places))?;
+        let mut loads = blank_table();
+        self.copy_loads(&mut loads);
+        Ok(Listing {
+            count: self.count,
+            loads,
+        })
     }
 }

@@ -4,6 +4,7 @@
 pub mod calls;
 pub mod tables;
 
+use loads::Load;
 use spatial::Wrench;
 
 // What a place of a buffer holds; link 0 and +0 where it is free.
@@ -21,4 +22,12 @@ pub struct LoadBuffer {
     pub count: usize,
     pub positions: [usize; 64],
     pub loads: [Stored; 64],
+}
+
+/// A listing by value: how many loads there are, and these in stored order at the front of 64 places. A place after them has id 0, link 0
+/// and +0.
+#[derive(Clone, Copy)]
+pub struct Listing {
+    pub count: usize,
+    pub loads: [Load; 64],
 }

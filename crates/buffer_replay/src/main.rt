@@ -83,28 +83,22 @@ fn same_answer(buffer: &LoadBuffer, number: u8, s: &[u8]) -> bool {
     same
 }
 
-// The loads that a listing into a table of so many places writes, after the stored ones.
+// The loads that a listing for so many places gives, after the stored ones.
 fn same_table(buffer: &LoadBuffer, places: usize, s: &[u8]) -> bool {
-    let mut table = empty_table();
-    let Ok(count) = list(buffer, places, &mut table) else {
+    let Ok(listing) = buffer.listed(places) else {
         return true;
     };
+    let count = listing.count;
     if count > 64 {
         return false;
     }
     let mut same = true;
     for i in 0..64 {
         if i < count {
-            same = same & same_listed(table[i], s, 3 + 50 * count + 64 * i);
+            same = same & same_listed(listing.loads[i], s, 3 + 50 * count + 64 * i);
         }
     }
     same
-}
-
-// How many loads a listing writes into the first so many places of a table, all of them if there are more.
-fn list(buffer: &LoadBuffer, places: usize, table: &mut [Load; 64]) -> Result<usize, Refusal> {
-    buffer.list(&mut table[..places.min(64)])?;
-    buffer.len()
 }
 
 // An operation frame's answer, and the buffer changed as it says.
@@ -120,7 +114,7 @@ fn apply(buffer: &mut LoadBuffer, s: &[u8]) -> Result<(), Refusal> {
         3 => buffer.add(id, link, wrench_at(s, 17)),
         4 => buffer.remove(id, link),
         5 => buffer.clear(),
-        6 => list(buffer, id as usize, &mut empty_table()).map(|_| ()),
+        6 => buffer.listed(id as usize).map(|_| ()),
         _ => buffer.len().map(|_| ()),
     }
 }
