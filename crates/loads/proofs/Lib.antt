@@ -2,3 +2,4 @@ pub mod CheckLaws
 pub mod SumLaws
 pub mod When
 pub mod LinkSums
+pub mod Unique

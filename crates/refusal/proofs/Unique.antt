@@ -46,6 +46,14 @@ one_answer (Ok a) (Err e) h = absurd (some e (sym h))
 one_answer (Err e) (Ok a) h = absurd (some e h)
 one_answer (Err e) (Err f) h = ap (λ (x : Refusal). let r : Result Unit Refusal = Err x in r) (one_refusal e f h)
 
+-- nor two that carry a value, where what is said of the value fixes it
+module _ {A : Type 0} where
+  pub one_result : (a b : Result A Refusal) → number a ≡ number b → ((x y : A) → a ≡ Ok x → b ≡ Ok y → x ≡ y) → a ≡ b
+  one_result (Ok x) (Ok y) h k = ap (λ (z : A). let r : Result A Refusal = Ok z in r) (k x y refl refl)
+  one_result (Ok x) (Err e) h k = absurd (some e (sym h))
+  one_result (Err e) (Ok y) h k = absurd (some e h)
+  one_result (Err e) (Err f) h k = ap (λ (z : Refusal). let r : Result A Refusal = Err z in r) (one_refusal e f h)
+
 -- an answer with the number 0 accepts
 pub accepted : (a : Result Unit Refusal) → number a ≡ 0 → a ≡ Ok tt
 accepted (Ok a) h = refl
