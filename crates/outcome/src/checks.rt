@@ -86,8 +86,7 @@ pub fn check_gravity(
     ensures { (sums : List WrenchRecord) → number result ≡ refusal (call_of Function.Gravity mode model.now base.now positions.now (length positions.now) [] [] (summed loaded sums)) places }
 {
     check_start(passed, model, base, positions)?;
-    check_output(mode, places, model.moving)?;
-    loaded
+    check_output(mode, places, model.moving).and(loaded)
 }
 
 // The velocity product takes no accelerations and no loads.

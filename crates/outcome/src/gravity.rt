@@ -12,7 +12,7 @@ use crate::scratch::GravityScratch;
 use crate::solve::solve;
 use dynamics::weights::turned;
 use model::{BaseState, Model, Pose, RootMode};
-use refusal::Refusal;
+use refusal::{Refusal, number};
 use spatial::constants::standard_gravity;
 use sweeps::kernel::Gravity;
 use sweeps::outward::outward;
@@ -42,4 +42,27 @@ pub fn gravity_lent(
     check_gravity(passed, mode, model, base, positions, loaded, output.len())?;
     solve(&Gravity, mode, model, base, scratch, output);
     check_figures(output)
+}
+
+/// The same where the refusal of the load sums is told by a number, 0 for none: the number is answered where no check before it refuses,
+/// whatever it is.
+pub fn gravity_core_lent(
+    mode: RootMode,
+    model: &Model,
+    base: &BaseState,
+    positions: &[Pose],
+    refused: u8,
+    scratch: &mut GravityScratch,
+    output: &mut [f64],
+) -> u8
+    ensures { told result output.new ≡ outcome (call_of Function.Gravity mode model.now base.now positions.now (length positions.now) [] [] (record { number = refused; sums = scratch.old.sums })) output.old }
+{
+    if refused != 0 {
+        let answer = check_gravity(false, mode, model, base, positions, Ok(()), output.len());
+        return match answer {
+            Ok(()) => refused,
+            Err(refusal) => refusal.number(),
+        };
+    }
+    number(gravity_lent(mode, model, base, positions, Ok(()), scratch, output))
 }

@@ -11,7 +11,7 @@ use crate::scratch::DynamicsScratch;
 use crate::solve::solve;
 use crate::{Function, JointStates};
 use model::{BaseState, Model, RootMode};
-use refusal::Refusal;
+use refusal::{Refusal, number};
 use sweeps::kernel::InverseDynamics;
 use sweeps::outward::outward;
 
@@ -44,4 +44,27 @@ pub fn inverse_dynamics_lent(
     check_inverse(passed, mode, model, base, joints, loaded, output.len())?;
     solve(&kernel, mode, model, base, scratch, output);
     check_figures(output)
+}
+
+/// The same where the refusal of the load sums is told by a number, 0 for none: the number is answered where no check before it refuses,
+/// whatever it is.
+pub fn inverse_dynamics_core_lent(
+    mode: RootMode,
+    model: &Model,
+    base: &BaseState,
+    joints: JointStates,
+    refused: u8,
+    scratch: &mut DynamicsScratch,
+    output: &mut [f64],
+) -> u8
+    ensures { told result output.new ≡ outcome (call_of Function.InverseDynamics mode model.now base.now joints.entry.positions.now (length joints.entry.positions.now) joints.entry.speeds.now joints.entry.accelerations.now (record { number = refused; sums = scratch.old.sums })) output.old }
+{
+    if refused != 0 {
+        let answer = check_inverse(false, mode, model, base, joints, Ok(()), output.len());
+        return match answer {
+            Ok(()) => refused,
+            Err(refusal) => refusal.number(),
+        };
+    }
+    number(inverse_dynamics_lent(mode, model, base, joints, Ok(()), scratch, output))
 }

@@ -9,10 +9,9 @@ use loads::sums::{prepare_indexed_loads, sum_loads};
 use loads::{Load, LoadTable};
 use model::{BaseState, Model, Pose, RootMode};
 use outcome::Function;
-use outcome::checks::check_gravity;
-use outcome::gravity::gravity_lent;
+use outcome::gravity::{gravity_core_lent, gravity_lent};
 use outcome::scratch::GravityScratch;
-use refusal::{Refusal, number};
+use refusal::Refusal;
 use spatial::Wrench;
 
 /// The joints' forces (N m or N) that bear the weights and the loads, by number, after the root's wrench in floating mode; or a refusal,
@@ -61,14 +60,7 @@ pub fn gravity_core(
 ) -> u8
     ensures { told result output.new ≡ outcome (call_of Function.Gravity mode model.now base.now positions.now (length positions.now) [] [] (record { number = refused; sums = sums })) output.old }
 {
-    if refused != 0 {
-        let answer = check_gravity(false, mode, model, base, positions, Ok(()), output.len());
-        return match answer {
-            Ok(()) => refused,
-            Err(refusal) => refusal.number(),
-        };
-    }
     let mut scratch = GravityScratch::new();
     scratch.sums = sums;
-    number(gravity_lent(mode, model, base, positions, Ok(()), &mut scratch, output))
+    gravity_core_lent(mode, model, base, positions, refused, &mut scratch, output)
 }

@@ -8,11 +8,10 @@ ghost use Rattle.outcome.specs.Outcome.{outcome, told};
 use loads::sums::{prepare_indexed_loads, sum_loads};
 use loads::{Load, LoadTable};
 use model::{BaseState, Model, RootMode};
-use outcome::checks::check_inverse;
-use outcome::inverse::inverse_dynamics_lent;
+use outcome::inverse::{inverse_dynamics_core_lent, inverse_dynamics_lent};
 use outcome::scratch::DynamicsScratch;
 use outcome::{Function, JointStates};
-use refusal::{Refusal, number};
+use refusal::Refusal;
 use spatial::Wrench;
 
 /// The joints' forces (N m or N), by number, after the root's wrench in floating mode; or a refusal, with the output as found (but for
@@ -61,14 +60,7 @@ pub fn inverse_dynamics_core(
 ) -> u8
     ensures { told result output.new ≡ outcome (call_of Function.InverseDynamics mode model.now base.now joints.entry.positions.now (length joints.entry.positions.now) joints.entry.speeds.now joints.entry.accelerations.now (record { number = refused; sums = sums })) output.old }
 {
-    if refused != 0 {
-        let answer = check_inverse(false, mode, model, base, joints, Ok(()), output.len());
-        return match answer {
-            Ok(()) => refused,
-            Err(refusal) => refusal.number(),
-        };
-    }
     let mut scratch = DynamicsScratch::new();
     scratch.sums = sums;
-    number(inverse_dynamics_lent(mode, model, base, joints, Ok(()), &mut scratch, output))
+    inverse_dynamics_core_lent(mode, model, base, joints, refused, &mut scratch, output)
 }
