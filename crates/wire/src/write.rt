@@ -61,7 +61,9 @@ pub fn put_f64(out: &mut [u8], at: usize, x: f64)
     put_u64(out, at, pattern(x));
 }
 
-// The bits of the doubles of a table, one after another.
+// The bits of the doubles of a table, one after another. Inlined at a table of known length, the loop is unrolled and a number's eight bytes
+// are stored one by one.
+#[inline(never)]
 pub fn put_floats(out: &mut [u8], at: usize, xs: &[f64])
     requires { at + 8 * length xs.now ≤ length out.old }
     ensures { out.new ≡ placed out.old at (float_bytes xs.now) }
