@@ -48,42 +48,34 @@ new_unique id links r r' m m' =
     one_result r r' (unique m.0 m'.0)
     (λ x y e e'. unique (IfOk-at_ok (λ b. b ≡ (new_of id links).buffer) e m.1) (IfOk-at_ok (λ b. b ≡ (new_of id links).buffer) e' m'.1))
 
-module _ (x : Counted) (r r' : Result ℕ Refusal) where
-  counted_number : (q : Result ℕ Refusal) → (counted q).number ≡ number q
-  counted_number (Ok n) = refl
-  counted_number (Err e) = refl
+-- what an answer is told as fixes it, where that has its number and its value
+module _ {A B : Type 0} (tell : Result A Refusal → B) (number_in : B → ℕ) (numbered : (r : Result A Refusal) → number_in (tell r) ≡ number r) (valued : (x y : A) → tell (Ok x) ≡ tell (Ok y) → x ≡ y) where
+  told_unique : (t : B) (r r' : Result A Refusal) → tell r ≡ t → tell r' ≡ t → r ≡ r'
+  told_unique t r r' m m' =
+      let k : tell r ≡ tell r' = unique m m' in
+      one_result r r' (sym (numbered r) ∙ ap number_in k ∙ numbered r') (λ x y e e'. valued x y (ap tell (sym e) ∙ k ∙ ap tell e'))
 
-  pub counted_unique : counted r ≡ x → counted r' ≡ x → r ≡ r'
-  counted_unique h h' =
-      let k : counted r ≡ counted r' = unique h h' in
-      one_result r r' (sym (counted_number r) ∙ ap (λ (c : Counted). c.number) k ∙ counted_number r')
-      (λ n n' e e'. ap (λ (q : Result ℕ Refusal). (counted q).count) (sym e) ∙ ap (λ (c : Counted). c.count) k ∙ ap (λ (q : Result ℕ Refusal). (counted q).count) e')
+counted_number : (r : Result ℕ Refusal) → (counted r).number ≡ number r
+counted_number (Ok n) = refl
+counted_number (Err e) = refl
 
-module _ (x : Emptiness) (r r' : Result Bool Refusal) where
-  emptied_number : (q : Result Bool Refusal) → (emptied q).number ≡ number q
-  emptied_number (Ok t) = refl
-  emptied_number (Err e) = refl
+pub counted_unique : (t : Counted) (r r' : Result ℕ Refusal) → counted r ≡ t → counted r' ≡ t → r ≡ r'
+counted_unique = told_unique counted (λ t. t.number) counted_number (λ n m k. ap (λ (t : Counted). t.count) k)
 
-  pub emptied_unique : emptied r ≡ x → emptied r' ≡ x → r ≡ r'
-  emptied_unique h h' =
-      let k : emptied r ≡ emptied r' = unique h h' in
-      one_result r r' (sym (emptied_number r) ∙ ap (λ (c : Emptiness). c.number) k ∙ emptied_number r')
-      (λ t t' e e'. ap (λ (q : Result Bool Refusal). (emptied q).empty) (sym e) ∙ ap (λ (c : Emptiness). c.empty) k ∙ ap (λ (q : Result Bool Refusal). (emptied q).empty) e')
+emptied_number : (r : Result Bool Refusal) → (emptied r).number ≡ number r
+emptied_number (Ok t) = refl
+emptied_number (Err e) = refl
 
-module _ (x : Listed) (r r' : Result Listing Refusal) where
-  gathered_number : (q : Result Listing Refusal) → (gathered q).number ≡ number q
-  gathered_number (Ok l) = refl
-  gathered_number (Err e) = refl
+pub emptied_unique : (t : Emptiness) (r r' : Result Bool Refusal) → emptied r ≡ t → emptied r' ≡ t → r ≡ r'
+emptied_unique = told_unique emptied (λ t. t.number) emptied_number (λ b c k. ap (λ (t : Emptiness). t.empty) k)
 
-  same_listing : (l l' : Listing) → l.count ≡ l'.count → l.loads ≡ l'.loads → l ≡ l'
-  same_listing l l' h k =
-      ap (λ (n : ℕ). let m : Listing = record { count = n; loads = l.loads } in m) h
-      ∙ ap (λ (ls : List Load). let m : Listing = record { count = l'.count; loads = ls } in m) k
+gathered_number : (r : Result Listing Refusal) → (gathered r).number ≡ number r
+gathered_number (Ok l) = refl
+gathered_number (Err e) = refl
 
-  pub gathered_unique : gathered r ≡ x → gathered r' ≡ x → r ≡ r'
-  gathered_unique h h' =
-      let k : gathered r ≡ gathered r' = unique h h' in
-      one_result r r' (sym (gathered_number r) ∙ ap (λ (c : Listed). c.number) k ∙ gathered_number r')
-      (λ l l' e e'.
-      same_listing l l' (ap (λ (q : Result Listing Refusal). (gathered q).count) (sym e) ∙ ap (λ (c : Listed). c.count) k ∙ ap (λ (q : Result Listing Refusal). (gathered q).count) e')
-      (ap (λ (q : Result Listing Refusal). (gathered q).loads) (sym e) ∙ ap (λ (c : Listed). c.loads) k ∙ ap (λ (q : Result Listing Refusal). (gathered q).loads) e'))
+-- the listing that is told
+abbrev listing_in : Listed → Listing
+listing_in t = record { count = t.count; loads = t.loads }
+
+pub gathered_unique : (t : Listed) (r r' : Result Listing Refusal) → gathered r ≡ t → gathered r' ≡ t → r ≡ r'
+gathered_unique = told_unique gathered (λ t. t.number) gathered_number (λ l m k. ap listing_in k)
